@@ -1,0 +1,2 @@
+-- What is proved of the paper's definitions by themselves.
+pub mod Table
