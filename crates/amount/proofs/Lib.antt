@@ -4,4 +4,5 @@ pub mod Sums
 pub mod Lowest
 pub mod Lists
 pub mod Outcomes
+pub mod Determined
 pub mod Rounding

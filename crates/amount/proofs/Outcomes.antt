@@ -1,10 +1,11 @@
--- That a contract allows one outcome. An outcome is the result with what the buffers hold at exit; a contract that gives
--- an equation for each part allows one. Assumes nothing.
+-- That a contract allows one outcome for each input. `Post` of a function's `Reads` is its contract as the checker reads
+-- it: of the lifetimes, the arguments, the result, and the arguments at exit. Assumes nothing.
 use mathlib.Core.Path.{_≡_, _∙_, sym}
 
--- any two outcomes that P allows coincide
-abbrev pub OneOutcome {ℓ} : {A : Type ℓ} → (A → Type ℓ) → Type ℓ
-OneOutcome {A} P = (r s : A) → P r → P s → r ≡ s
+-- any two results that a contract allows coincide
+abbrev pub OneResult : {L : Type 0} {D R E : L → Type 0} → ((κs : L) → D κs → R κs → E κs → Type 0) → Type 0
+OneResult {L} {D} {R} {E} post = (κs : L) (a : D κs) (x y : R κs) (e f : E κs) → post κs a x e → post κs a y f → x ≡ y
 
-pub by-equation {ℓ} : {A : Type ℓ} (f : A) → OneOutcome (λ r. r ≡ f)
-by-equation f r s p q = p ∙ sym q
+-- what is equal to one thing is equal: a contract that is an equation allows one outcome
+pub coincide {ℓ} : {A : Type ℓ} {x y z : A} → x ≡ z → y ≡ z → x ≡ y
+coincide p q = p ∙ sym q

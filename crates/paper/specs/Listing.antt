@@ -10,13 +10,14 @@ use Rattle.paper.specs.declared.Totals.{Totals}
 use Rattle.paper.specs.declared.Verdict.{Verdict}
 use Rattle.paper.specs.declared.Verdict.the-variants.{Sound, Refused}
 use Rattle.paper.specs.Refusals.{mostClasses, mostInstruments, mostPositions, verdictOf}
-use Rattle.paper.specs.Trees.{Tree, rowOf, classChoice, itemChoice}
-use Rattle.paper.specs.Answers.{codeOf, bookTree, figures}
+use Rattle.paper.specs.Trees.{classChoice, itemChoice}
+use Rattle.paper.specs.Answers.{codeOf, Walk, walkOf, figures}
 
--- "keeping the first 345 records": one more than a sound book can have
+-- "a book longer than 344 is always refused": the most records that the limits leave
 abbrev pub mostRecords : ℕ
 mostRecords = mostClasses + mostInstruments + mostPositions
 
+-- "keeping the first 345 records and counting the rest"
 abbrev pub keptRecords : ℕ
 keptRecords = mostRecords + 1
 
@@ -67,29 +68,31 @@ fields (f ∷ fs) = 32 ∷ f ++ fields fs
 abbrev pub line : List ℕ → List (List ℕ) → List ℕ
 line tag fs = tag ++ fields fs
 
--- "each class has a CLASS line and then each instrument an ITEM line, in number order": lines 0 to n - 1
+-- "in number order": the lines of numbers 0 to n - 1
 unfoldable pub lines : ℕ → (ℕ → List ℕ) → List ℕ
 lines zero f = []
 lines (suc n) f = lines n f ++ f n
 
--- "CLASS has number and point; ITEM has number, point and amount there."
-abbrev pub classLine : Tree → ℕ → List ℕ
-classLine t k = line CLASS (decimal k ∷ decimal (classChoice t (rowOf t) k) ∷ [])
+-- "CLASS has number and point"
+abbrev pub classLine : Walk → ℕ → List ℕ
+classLine w k = line CLASS (decimal k ∷ decimal (classChoice (w .tree) (w .row) k) ∷ [])
 
-abbrev pub itemLine : Tree → ℕ → List ℕ
-itemLine t i =
-    let point = itemChoice t (rowOf t) i in
-    line ITEM (decimal i ∷ decimal point ∷ kroner (t .amount i point) ∷ [])
+-- "ITEM has number, point and amount there."
+abbrev pub itemLine : Walk → ℕ → List ℕ
+itemLine w i =
+    let point = itemChoice (w .tree) (w .row) i in
+    line ITEM (decimal i ∷ decimal point ∷ kroner (w .tree .amount i point) ∷ [])
 
+-- the lines of the three totals
 abbrev pub totalLines : Totals → List ℕ
 totalLines f = line MTM (kroner (f .mark) ∷ []) ++ (line NAKED (kroner (f .naked) ∷ []) ++ line CROSS (kroner (f .cross) ∷ []))
 
--- "It prints lines with the tags .., or one line with REFUSED, code and place."
+-- "After CROSS each class has a CLASS line and then each instrument an ITEM line"; "or one line with REFUSED, code and place"
 unfoldable pub listingFor : List ℕ → Verdict → List ℕ
 listingFor b (Sound s) =
-    let t = bookTree b s in
-    totalLines (figures b s) ++ (lines (t .classes) (classLine t) ++ lines (t .instruments) (itemLine t))
+    totalLines (figures b s) ++ (lines (s .classes) (classLine (walkOf b s)) ++ lines (s .instruments) (itemLine (walkOf b s)))
 listingFor b (Refused f place) = line REFUSED (decimal (codeOf f) ∷ decimal place ∷ [])
 
+-- the whole output
 unfoldable pub listingOf : List ℕ → List ℕ
 listingOf b = listingFor b (verdictOf b)

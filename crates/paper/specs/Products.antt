@@ -15,7 +15,7 @@ use Rattle.paper.specs.Records.{bought, tradedToday, classOf, instrument
 use Rattle.paper.specs.Refusals.{byProduct}
 use Rattle.paper.specs.Rounding.{nearest}
 
--- what is fixed: the classes and the instruments
+-- what is fixed: the classes and the instruments, by number
 pub record Terms : Type 0 where
   pub points : ℕ
   pub classes : ℕ
@@ -28,6 +28,7 @@ pub record Positions : Type 0 where
   pub many : ℕ
   pub each : ℕ → Position
 
+-- both as a book of a given shape has them
 abbrev pub termsOf : List ℕ → Shape → Terms
 termsOf b s = record {
   points = s .points;
@@ -46,10 +47,11 @@ netOf ps i =
     sum (ps .many)
     (λ k. let p = ps .each k in only (eqb (p .instrument) i) (cond (bought p) (pos (p .quantity)) (negℤ (pos (p .quantity)))))
 
--- bought and sold quantity together
+-- bought and sold quantity together: what the bounds go by
 unfoldable pub grossOf : Positions → ℕ → ℤ
 grossOf ps i = sum (ps .many) (λ k. let p = ps .each k in only (eqb (p .instrument) i) (pos (p .quantity)))
 
+-- what is held of instrument i
 abbrev pub heldOf : Positions → ℕ → Holding
 heldOf ps i = record { net = netOf ps i; gross = grossOf ps i }
 
@@ -57,22 +59,24 @@ heldOf ps i = record { net = netOf ps i; gross = grossOf ps i }
 abbrev pub shift : Instrument → ℕ → ℕ → ℤ
 shift x m i = x .par *ℤ (pos (2 * i) -ℤ pos m)
 
--- s(i) - Adj m, and -s(i) - Adj m: who gains, and who loses, as the scale goes up; both lose the adjustment
+-- s(i) - Adj m: who gains as the scale goes up
 abbrev pub rising : Instrument → ℕ → ℕ → ℤ
 rising x m i = shift x m i -ℤ x .adj *ℤ pos m
 
+-- -s(i) - Adj m: who loses; both lose the adjustment
 abbrev pub falling : Instrument → ℕ → ℕ → ℤ
 falling x m i = negℤ (shift x m i) -ℤ x .adj *ℤ pos m
 
--- "Product 1: bought (s(i) - Adj m) days / (360 m), sold (-s(i) - Adj m) days / (360 m), rounded to whole øre."
+-- "Product 1 (..): bought (s(i) - Adj m) days / (360 m), sold (-s(i) - Adj m) days / (360 m), rounded to whole øre."
 abbrev pub fra : Instrument → ℕ → Bool → ℕ → ℤ
 fra x m buys i = nearest (cond buys (rising x m i) (falling x m i) *ℤ pos (x .days)) (360 * m)
 
--- "Product 2: bought (-s(i) - Adj m) / (100 m), sold (s(i) - Adj m) / (100 m), rounded .., then times 25."
+-- "Product 2 (..): bought (-s(i) - Adj m) / (100 m), sold (s(i) - Adj m) / (100 m), rounded to a whole number of
+-- hundredths of a basis point, then times 25."
 abbrev pub future : Instrument → ℕ → Bool → ℕ → ℤ
 future x m buys i = nearest (cond buys (falling x m i) (rising x m i)) (100 * m) *ℤ pos 25
 
--- "Product 3: fixing times (s(i) - Adj m), or (-s(i) - Adj m) if sold, over (1,000,000 m), rounded to whole øre."
+-- "Product 3 (..): fixing times (s(i) - Adj m), or (-s(i) - Adj m) if sold, over (1,000,000 m), rounded to whole øre."
 abbrev pub bond : Instrument → ℕ → Bool → ℕ → ℤ
 bond x m buys i = nearest (x .today *ℤ cond buys (rising x m i) (falling x m i)) (1000000 * m)
 
@@ -80,6 +84,7 @@ bond x m buys i = nearest (x .today *ℤ cond buys (rising x m i) (falling x m i
 abbrev pub timesNet : ℤ → (Bool → ℤ) → ℤ
 timesNet net one = cond (eqb (natAbs net) 0) (pos 0) (one (nonNeg net) *ℤ pos (natAbs net))
 
+-- the amount at point i of what is held; a sound book has no other product
 unfoldable pub amountAt : Instrument → ℕ → Holding → ℕ → ℤ
 amountAt x points held i =
     let m = points - 1 in
@@ -92,6 +97,17 @@ amountAt x points held i =
 -- "The naked margin of an instrument is its lowest amount"
 unfoldable pub nakedOf : Instrument → ℕ → Holding → ℤ
 nakedOf x points held = lowest (amountAt x points held) 0 (points - 1)
+
+-- "For a bought or sold net of one contract it equals minus [(Par + Adj) days / 360], minus 25 [(Par + Adj) / 100],
+-- minus [fixing (Par + Adj) / 1,000,000], brackets rounded"
+unfoldable pub nakedOfOne : Instrument → ℤ
+nakedOfOne x =
+    let edge = x .par +ℤ x .adj in
+    byProduct (x .product)
+    (negℤ (nearest (edge *ℤ pos (x .days)) 360))
+    (negℤ (nearest edge 100 *ℤ pos 25))
+    (negℤ (nearest (x .today *ℤ edge) 1000000))
+    (pos 0)
 
 -- "the naked total is the sum over all instruments"
 unfoldable pub nakedTotal : Terms → Positions → ℤ

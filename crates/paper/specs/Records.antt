@@ -10,37 +10,44 @@ use Rattle.paper.specs.declared.Instrument.{Instrument}
 use Rattle.paper.specs.declared.Position.{Position}
 use Rattle.paper.specs.declared.Shape.{Shape}
 
--- "Records of 32 bytes, no header": how many whole ones a book has
+-- "Records of 32 bytes, no header"
+abbrev pub recordBytes : ℕ
+recordBytes = 32
+
+-- "whole records"
 abbrev pub wholeRecords : List ℕ → ℕ
-wholeRecords b = length b / 32
+wholeRecords b = length b / recordBytes
 
 -- byte o of record r
 abbrev pub byte : List ℕ → ℕ → ℕ → ℕ
-byte b r o = getD b (32 * r + o) 0
+byte b r o = getD b (recordBytes * r + o) 0
 
--- "little endian": the fields of two and of four bytes from byte o on
+-- "little endian": the field of two bytes from byte o on
 unfoldable pub le16 : List ℕ → ℕ → ℕ → ℕ
 le16 b r o = byte b r o + 256 * byte b r (o + 1)
 
+-- the field of four bytes from byte o on
 unfoldable pub le32 : List ℕ → ℕ → ℕ → ℕ
 le32 b r o = le16 b r o + 65536 * le16 b r (o + 2)
 
--- "classes first, then instruments, then positions": a kind is its rank in that order, and 0 is none
+-- "classes first, then instruments, then positions": a kind is its rank in that order, 1, 2 or 3; 0 is no kind
 abbrev pub byKind {ℓ} : {A : Type ℓ} → ℕ → A → A → A → A → A
 byKind kind class instrument position none =
     cond (eqb kind 1) class (cond (eqb kind 2) instrument (cond (eqb kind 3) position none))
 
--- "letter": C, I or P
+-- "letter": C is 67, I 73, P 80
 unfoldable pub kindOf : ℕ → ℕ
 kindOf letter = cond (eqb letter 67) 1 (cond (eqb letter 73) 2 (cond (eqb letter 80) 3 0))
 
+-- the kind of record r
 abbrev pub kindAt : List ℕ → ℕ → ℕ
 kindAt b r = kindOf (byte b r 0)
 
--- "C: 2-3; 4-5; 6-7: parent class, or 65535 for a root; points; window share"
+-- "C: 2-3; 4-5; 6-7: parent class, or 65535 for a root; points; window share in hundredths of a percent"
 unfoldable pub classAt : List ℕ → ℕ → Class
 classAt b r = record { parent = le16 b r 2; points = le16 b r 4; share = le16 b r 6 }
 
+-- "or 65535 for a root"
 abbrev pub root : ℕ
 root = 65535
 
@@ -66,10 +73,11 @@ positionAt b r = record {
   traded = byte b r 12;
 }
 
--- "side (1 bought, 2 sold)", "traded (1 today, 0 carried)"
+-- "side (1 bought, 2 sold)"
 abbrev pub bought : Position → Bool
 bought p = eqb (p .side) 1
 
+-- "traded (1 today, 0 carried)"
 abbrev pub tradedToday : Position → Bool
 tradedToday p = eqb (p .traded) 1
 
@@ -82,7 +90,7 @@ count b kind (suc r) = count b kind r + cond (eqb (kindAt b r) kind) 1 0
 unfoldable pub shapeOf : List ℕ → ℕ → Shape
 shapeOf b r = record { classes = count b 1 r; instruments = count b 2 r; positions = count b 3 r; points = classAt b 0 .points }
 
--- a class, an instrument, a position by its number, where the records before are those of a shape
+-- class number k of a book of a given shape; then its instrument number i, and its position number p
 abbrev pub classOf : List ℕ → ℕ → Class
 classOf b k = classAt b k
 

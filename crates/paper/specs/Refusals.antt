@@ -16,7 +16,7 @@ use Rattle.paper.specs.declared.Finding.{Finding}
 use Rattle.paper.specs.declared.Finding.the-variants.{Clean, Faulty}
 use Rattle.paper.specs.declared.Verdict.{Verdict}
 use Rattle.paper.specs.declared.Verdict.the-variants.{Sound, Refused}
-use Rattle.paper.specs.Records.{wholeRecords, byte, byKind, kindAt, root, classAt, instrumentAt, positionAt, tradedToday, count, shapeOf, instrumentOf}
+use Rattle.paper.specs.Records.{recordBytes, wholeRecords, byte, byKind, kindAt, root, classAt, instrumentAt, positionAt, tradedToday, count, shapeOf, instrumentOf}
 
 -- "At most 24 classes, 64 instruments, 256 positions."
 abbrev pub mostClasses : ℕ
@@ -80,37 +80,57 @@ adjFits product adj =
 abbrev pub quantityFits : ℕ → Bool
 quantityFits quantity = leb 1 quantity && leb quantity 1000000
 
--- "A carried position has contracted price 0."
+-- "A carried position has contracted price 0." "a traded price of 0 is a price"
 abbrev pub carriedFits : Position → Bool
 carriedFits p = tradedToday p || within (pos 0) (pos 0) (p .price)
 
--- code 2: "first byte not C, I or P"
-abbrev pub noKind : List ℕ → ℕ → Bool
-noKind b r = eqb (kindAt b r) 0
+-- The table: for each code, whether it is given. s is what the records before record r are.
 
--- code 3: "kind earlier than the record before"; before the first record stands none
+-- 1: "length not a multiple of 32"
+abbrev pub lengthFault : List ℕ → Bool
+lengthFault b = not (eqb (length b % recordBytes) 0)
+
+-- 2: "first byte not C, I or P"
+abbrev pub letterFault : List ℕ → ℕ → Bool
+letterFault b r = eqb (kindAt b r) 0
+
+-- the kind of the record before; before the first stands none
 unfoldable pub kindBefore : List ℕ → ℕ → ℕ
 kindBefore b zero = 0
 kindBefore b (suc r) = kindAt b r
 
-abbrev pub outOfOrder : List ℕ → ℕ → Bool
-outOfOrder b r = ltb (kindAt b r) (kindBefore b r)
+-- 3: "kind earlier than the record before"
+abbrev pub orderFault : List ℕ → ℕ → Bool
+orderFault b r = ltb (kindAt b r) (kindBefore b r)
 
--- code 4: "25th class, 65th instrument or 257th position"
-abbrev pub overLimit : ℕ → Shape → Bool
-overLimit kind s =
-    byKind kind (leb mostClasses (s .classes)) (leb mostInstruments (s .instruments)) (leb mostPositions (s .positions)) false
+-- 4: "25th class, 65th instrument or 257th position"
+abbrev pub limitFault : List ℕ → ℕ → Shape → Bool
+limitFault b r s =
+    byKind (kindAt b r)
+    (leb mostClasses (s .classes))
+    (leb mostInstruments (s .instruments))
+    (leb mostPositions (s .positions))
+    false
 
--- code 5: "reserved byte not zero"; "Bytes not named are reserved and zero." The n bytes of record r from o on are zero
+-- the n bytes of record r from o on are zero
 unfoldable pub zeros : List ℕ → ℕ → ℕ → ℕ → Bool
 zeros b r o zero = true
 zeros b r o (suc n) = eqb (byte b r o) 0 && zeros b r (o + 1) n
 
-unfoldable pub reservedZero : List ℕ → ℕ → ℕ → Bool
-reservedZero b r kind =
-    byKind kind (zeros b r 1 1 && zeros b r 8 24) (zeros b r 6 2 && zeros b r 24 8) (zeros b r 13 19) true
+-- "Bytes not named are reserved and zero."
+unfoldable pub reservedZero : List ℕ → ℕ → Bool
+reservedZero b r =
+    byKind (kindAt b r)
+    (zeros b r 1 1 && zeros b r 8 24)
+    (zeros b r 6 2 && zeros b r 24 8)
+    (zeros b r 13 19)
+    true
 
--- code 6: "parent neither 65535 nor a smaller class number; class or instrument number not that of a record before it"
+-- 5: "reserved byte not zero"
+abbrev pub reservedFault : List ℕ → ℕ → Bool
+reservedFault b r = not (reservedZero b r)
+
+-- a parent is 65535 or a smaller class number; the class or instrument named is that of a record before
 abbrev pub parentRefers : Class → Shape → Bool
 parentRefers c s = eqb (c .parent) root || ltb (c .parent) (s .classes)
 
@@ -120,7 +140,17 @@ classRefers i s = ltb (i .class) (s .classes)
 abbrev pub instrumentRefers : Position → Shape → Bool
 instrumentRefers p s = ltb (p .instrument) (s .instruments)
 
--- code 7: "any other field out of its range above; contracted price of a carried position not 0"
+-- 6: "parent neither 65535 nor a smaller class number; class or instrument number not that of a record before it"
+unfoldable pub referenceFault : List ℕ → ℕ → Shape → Bool
+referenceFault b r s =
+    not
+    (byKind (kindAt b r)
+    (parentRefers (classAt b r) s)
+    (classRefers (instrumentAt b r) s)
+    (instrumentRefers (positionAt b r) s)
+    true)
+
+-- the other fields of a class, of an instrument and of a position are in their ranges
 abbrev pub classFits : Class → Bool
 classFits c = pointsFit (c .points) && shareFits (c .share)
 
@@ -132,7 +162,7 @@ instrumentFits i =
     && parFits (i .product) (i .par)
     && adjFits (i .product) (i .adj)
 
--- a position's price is in the range of the product of the instrument that it names
+-- of a position with the product of the instrument that it names
 unfoldable pub positionFits : Position → ℕ → Bool
 positionFits p product =
     leb 1 (p .side) && leb (p .side) 2
@@ -141,9 +171,27 @@ positionFits p product =
     && leb (p .traded) 1
     && carriedFits p
 
--- code 8: "points differ from class 0's"
-abbrev pub pointsSame : Class → Shape → Bool
-pointsSame c s = eqb (c .points) (s .points)
+-- 7: "any other field out of its range above; contracted price of a carried position not 0"
+unfoldable pub rangeFault : List ℕ → ℕ → Shape → Bool
+rangeFault b r s =
+    not
+    (byKind (kindAt b r)
+    (classFits (classAt b r))
+    (instrumentFits (instrumentAt b r))
+    (positionFits (positionAt b r) (instrumentOf b s (positionAt b r .instrument) .product))
+    true)
+
+-- 8: "points differ from class 0's"
+unfoldable pub pointsFault : List ℕ → ℕ → Shape → Bool
+pointsFault b r s = byKind (kindAt b r) (not (eqb (classAt b r .points) (s .points))) false false false
+
+-- 9: "rows buffer shorter than classes times points"
+abbrev pub rowsFault : Shape → ℕ → Bool
+rowsFault s rows = ltb rows (s .classes * s .points)
+
+-- 10: "choice buffer shorter than classes plus instruments"
+abbrev pub choiceFault : Shape → ℕ → Bool
+choiceFault s choice = ltb choice (s .classes + s .instruments)
 
 -- a row of the table, and whether it is given
 pub record Test : Type 0 where
@@ -153,20 +201,16 @@ pub record Test : Type 0 where
 abbrev pub test : Fault → Bool → Test
 test f g = record { fault = f; given = g }
 
--- "then each record in file order by 2 to 8 in that order": the tests of record r, where the records before it are s
+-- "each record in file order by 2 to 8 in that order"
 unfoldable pub tests : List ℕ → ℕ → Shape → List Test
 tests b r s =
-    let kind = kindAt b r in
-    let c = classAt b r in
-    let i = instrumentAt b r in
-    let p = positionAt b r in
-    test Letter (noKind b r)
-    ∷ test Order (outOfOrder b r)
-    ∷ test Limit (overLimit kind s)
-    ∷ test Reserved (not (reservedZero b r kind))
-    ∷ test Reference (not (byKind kind (parentRefers c s) (classRefers i s) (instrumentRefers p s) true))
-    ∷ test Range (not (byKind kind (classFits c) (instrumentFits i) (positionFits p (instrumentOf b s (p .instrument) .product)) true))
-    ∷ test Points (not (byKind kind (pointsSame c s) true true true))
+    test Letter (letterFault b r)
+    ∷ test Order (orderFault b r)
+    ∷ test Limit (limitFault b r s)
+    ∷ test Reserved (reservedFault b r)
+    ∷ test Reference (referenceFault b r s)
+    ∷ test Range (rangeFault b r s)
+    ∷ test Points (pointsFault b r s)
     ∷ []
 
 -- the first that is given
@@ -174,6 +218,7 @@ unfoldable pub firstGiven : List Test → Finding
 firstGiven [] = Clean
 firstGiven (t ∷ ts) = cond (t .given) (Faulty (t .fault)) (firstGiven ts)
 
+-- what the tests of record r find, after those before it
 unfoldable pub findingAt : List ℕ → ℕ → Finding
 findingAt b r = firstGiven (tests b r (shapeOf b r))
 
@@ -181,28 +226,24 @@ findingAt b r = firstGiven (tests b r (shapeOf b r))
 abbrev pub atEnd : List ℕ → ℕ → Verdict
 atEnd b n = Sound (shapeOf b n)
 
--- the verdict where the records before r are clean and n are left
+-- a faulty record ends the reading, with its number as place
 abbrev pub orElse : Finding → ℕ → Verdict → Verdict
 orElse Clean r later = later
 orElse (Faulty f) r later = Refused f r
 
+-- the verdict where the records before r are clean and n are left
 unfoldable pub verdictFrom : List ℕ → ℕ → ℕ → Verdict
 verdictFrom b r zero = atEnd b r
 verdictFrom b r (suc n) = orElse (findingAt b r) r (verdictFrom b (r + 1) n)
 
--- "Code 1 is tested first": "length not a multiple of 32", with the whole records as place
+-- "Code 1 is tested first, then each record in file order"; "An empty book is accepted with zeros."
 unfoldable pub verdictOf : List ℕ → Verdict
-verdictOf b = cond (eqb (length b % 32) 0) (verdictFrom b 0 (wholeRecords b)) (Refused Length (wholeRecords b))
+verdictOf b = cond (lengthFault b) (Refused Length (wholeRecords b)) (verdictFrom b 0 (wholeRecords b))
 
--- "then 9, then 10": "rows buffer shorter than classes times points", "choice buffer shorter than classes plus instruments"
-abbrev pub roomFor : Shape → ℕ → ℕ → ℕ → Verdict
-roomFor s whole rows choice =
-    cond (ltb rows (s .classes * s .points)) (Refused Rows whole)
-    (cond (ltb choice (s .classes + s .instruments)) (Refused Choice whole)
-    (Sound s))
-
+-- "then 9, then 10", with the whole records as place
 abbrev pub withRoom : Verdict → ℕ → ℕ → ℕ → Verdict
-withRoom (Sound s) whole rows choice = roomFor s whole rows choice
+withRoom (Sound s) whole rows choice =
+    cond (rowsFault s rows) (Refused Rows whole) (cond (choiceFault s choice) (Refused Choice whole) (Sound s))
 withRoom (Refused f place) whole rows choice = Refused f place
 
 -- the verdict on a book and on the lengths of the two buffers lent

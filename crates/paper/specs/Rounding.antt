@@ -1,4 +1,4 @@
--- "Rounding is to nearest, halves away from zero."
+-- "Rounding is to nearest, halves away from zero (ours)."
 use mathlib.Core.Path.{_≡_}
 use Prim.Native.Nat.{ℕ, suc, _+_, _*_, _/_, _≤_}
 use lib.IntN.{ℤ, pos, negsuc, negℤ, natAbs, _-ℤ_, _*ℤ_}
@@ -7,7 +7,7 @@ use lib.IntN.{ℤ, pos, negsuc, negℤ, natAbs, _-ℤ_, _*ℤ_}
 abbrev pub nearestSize : ℕ → ℕ → ℕ
 nearestSize n d = (2 * n + d) / (2 * d)
 
--- z / d, rounded; a negative is rounded as its size is
+-- z / d, rounded; a negative as its size is
 unfoldable pub nearest : ℤ → ℕ → ℤ
 nearest (pos n) d = pos (nearestSize n d)
 nearest (negsuc n) d = negℤ (pos (nearestSize (suc n) d))
@@ -16,7 +16,7 @@ nearest (negsuc n) d = negℤ (pos (nearestSize (suc n) d))
 abbrev pub distance : ℤ → ℕ → ℤ → ℕ
 distance z d r = natAbs (z -ℤ r *ℤ pos d)
 
--- r is nearest to z / d: no whole number is nearer, and none that is as near is further from zero
+-- what that is to mean: no whole number is nearer to z / d than r, and none that is as near is further from zero
 pub record Nearest (z : ℤ) (d : ℕ) (r : ℤ) : Type 0 where
   pub near : (s : ℤ) → distance z d r ≤ distance z d s
   pub away : (s : ℤ) → distance z d s ≡ distance z d r → natAbs s ≤ natAbs r

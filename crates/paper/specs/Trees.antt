@@ -37,11 +37,12 @@ treeOf ts ps = record {
 module _ (t : Tree) where
   open Tree t using (points, classes, parent, reach, instruments, home, amount)
 
+  -- "65535 for a root"
   abbrev pub isRoot : ℕ → Bool
   isRoot k = eqb (parent k) root
 
   -- "A class's result at point i is the sum, over its child classes and instruments, of each child's lowest entry at
-  -- points within reach of i"
+  -- points within reach of i"; "A class without children has zeros."
   abbrev pub resultFrom : (ℕ → ℕ → ℤ) → ℕ → ℕ → ℤ
   resultFrom row k x =
       sum classes (λ c. only (eqb (parent c) k) (lowestNear points (row c) (reach k) x))
@@ -51,7 +52,7 @@ module _ (t : Tree) where
   unfoldable pub rowOf : ℕ → ℕ → ℤ
   rowOf = rounds classes resultFrom (λ k x. pos 0)
 
-  -- "The cross margin is the sum, over roots, of the root's lowest result."
+  -- "The cross margin is the sum, over roots, of the root's lowest result." It keeps its sign
   unfoldable pub crossOf : (ℕ → ℕ → ℤ) → ℤ
   crossOf row = sum classes (λ k. only (isRoot k) (lowest (row k) 0 (points - 1)))
 
@@ -65,6 +66,12 @@ module _ (t : Tree) where
   -- the total of a choice: the instruments' amounts at their points
   unfoldable pub totalOf : (ℕ → ℕ) → ℤ
   totalOf q = sum instruments (λ i. amount i (q i))
+
+  -- cross is the lowest total of the allowed choices, and the choice p, q is one of these and gives it
+  pub record LowestTotal (cross : ℤ) (p q : ℕ → ℕ) : Type 0 where
+    pub least : (p′ q′ : ℕ → ℕ) → Allowed p′ q′ → cross ≤ℤ totalOf q′
+    pub allowed : Allowed p q
+    pub gives : totalOf q ≡ cross
 
   -- "a root takes its lowest-numbered point with the lowest result": as a child of the middle, with the whole scale in
   -- reach; "a child takes the lowest-numbered point with its lowest entry within its parent's reach of the parent's point"
