@@ -35,12 +35,15 @@ pub fn worse(a: i64, b: i64) -> i64
     if b < a { b } else { a }
 }
 
-// The size of an amount that has a negative.
+// The size of an amount, of the lowest too, whose negative no i64 holds.
 pub fn size(a: i64) -> u64
-    requires { ⌜ natAbs a < 2 ^ 63 ⌝ }
     ensures { λ r. ⌜ r ≡ natAbs a ⌝ }
 {
-    if a < 0 { less(0, a) as u64 } else { a as u64 }
+    if a < 0 {
+        less(-1, a) as u64 + 1
+    } else {
+        a as u64
+    }
 }
 
 // A size, rounded to nearest over a divisor: half a unit is added, and the rest is dropped.

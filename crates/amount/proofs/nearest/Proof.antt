@@ -19,7 +19,7 @@ use Rattle.amount.proofs.nearest_size.Reads as nearest-size-reads
 use Rattle.amount.proofs.size.Reads as size-reads
 
 size-requires : tie.Need-size-requires
-size-requires c κs = rw (toZ-ofZ (c .fits .z)) (omega arith)
+size-requires c κs = tt
 
 -- the size that is rounded
 sized : (c : tie.After-size) → c .size .result ≡ natAbs (c .before .args .z)

@@ -1,0 +1,2 @@
+-- What is proved of texts beside the functions' own contracts.
+pub mod Decimal

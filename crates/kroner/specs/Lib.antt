@@ -1,0 +1,2 @@
+-- What a text holds, and what it reads as.
+pub mod Text

@@ -1,0 +1,5 @@
+-- What is proved of trees, over the paper's definitions: the rows' equation, the lowest total, and that all figures fit.
+pub mod Only
+pub mod Rows
+pub mod Theorem
+pub mod Bounds

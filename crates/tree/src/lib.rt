@@ -1,0 +1,1 @@
+// The tree of classes: what its rows, cross margin and choice mean together.

@@ -1,0 +1,2 @@
+-- What the window's functions say of slices.
+pub mod Slides
