@@ -1,2 +1,4 @@
 -- What is proved of texts beside the functions' own contracts.
 pub mod Decimal
+pub mod Back
+pub mod Determined
