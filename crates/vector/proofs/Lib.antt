@@ -1,0 +1,9 @@
+-- What is proved of one instrument: the laws of rounding that its amounts go by, its bounds, its closed form.
+pub mod Signs
+pub mod Rounding
+pub mod Ranges
+pub mod Bounds
+pub mod Closed
+pub mod Gross
+pub mod Listed
+pub mod Determined

@@ -1,0 +1,2 @@
+-- What this crate's contracts say beyond the paper.
+pub mod Holdings
