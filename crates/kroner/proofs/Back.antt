@@ -16,7 +16,8 @@ use mir.Val.{SFits}
 use Rattle.paper.specs.Listing.{digit, decimal, kroner}
 use Rattle.kroner.specs.declared.Reading.the-variants.{Amount, Unreadable}
 use Rattle.kroner.specs.Reading.{most, signBytes, further, numberFrom, signed, readOf}
-use Rattle.kroner.proofs.Decimal.{decimal-one, decimal-more, unsigned}
+use Rattle.text.proofs.Decimal.{decimal-one, decimal-more}
+use Rattle.kroner.proofs.Signs.{unsigned}
 
 -- the ways that a text is read
 pub sign-small : (s : List ℕ) → signBytes s ≤ 1

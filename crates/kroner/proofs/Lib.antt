@@ -1,4 +1,4 @@
--- What is proved of texts beside the functions' own contracts.
-pub mod Decimal
+-- What is proved of amounts as text beside the functions' own contracts.
+pub mod Signs
 pub mod Back
 pub mod Determined

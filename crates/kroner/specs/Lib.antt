@@ -1,3 +1,2 @@
--- What a text holds, and what it reads as.
-pub mod Text
+-- What a text reads as.
 pub mod Reading

@@ -5,16 +5,12 @@ use Prim.Native.Nat.{ℕ, zero, suc, _+_, _-_, _*_, _/_, _%_, _^_, _≤_, _<_}
 use native.Mathlib.Omega.{arith}
 use native.Mathlib.Decide.{decLt}
 use borrow.Author.Tests.{lt-ltb, le-ltb}
-use mathlib.Core.Bool.{true, false}
 use lib.Dec.{ltb}
-use lib.IntN.{ℤ, pos, negsuc, natAbs}
-use lib.Signed.{mag, ltZ}
 use lib.ListN.{length, drop, set, replicate, length-append, length-replicate}
 use lib.Seq.{drop-at, set-at, append-snoc}
-use Rattle.paper.specs.Listing.{digit, digits, decimal, kroner}
-use Rattle.amount.proofs.Ints.{ints}
-use Rattle.kroner.specs.declared.Text.{Text}
-use Rattle.kroner.specs.Text.{right, shown, inFront}
+use Rattle.paper.specs.Listing.{digit, digits, decimal}
+use Rattle.text.specs.declared.Text.{Text}
+use Rattle.text.specs.Text.{room, right, shown, inFront}
 
 -- of a number below 10 there is one digit, and no room for more changes that
 one-digit : (f n : ℕ) → n < 10 → digits (suc f) n ≡ digit n ∷ []
@@ -57,21 +53,21 @@ zeros-less zero b s = refl
 zeros-less (suc k) b s = ap (λ (t : List ℕ). 0 ∷ t) (zeros-less k b s)
 
 pub right-shown : (s : List ℕ) → shown (right s) ≡ s
-right-shown s = drop-at (replicate (24 - length s) 0) s (24 - length s) (length-replicate (24 - length s) 0)
+right-shown s = drop-at (replicate (room - length s) 0) s (room - length s) (length-replicate (room - length s) 0)
 
-pub right-front : (b : ℕ) (s : List ℕ) → length s < 24 → inFront (right s) b ≡ right (b ∷ s)
+pub right-front : (b : ℕ) (s : List ℕ) → length s < room → inFront (right s) b ≡ right (b ∷ s)
 right-front b s h =
-    let k : ℕ = 24 - length (b ∷ s) in
-    let e : 24 - length s ≡ suc k = omega arith in
-    let f : 24 - length s - 1 ≡ k = omega arith in
-    let l : set (replicate (24 - length s) 0 ++ s) (24 - length s - 1) b ≡ replicate k 0 ++ (b ∷ s) = rw (f, e) (zeros-less k b s) in
+    let k : ℕ = room - length (b ∷ s) in
+    let e : room - length s ≡ suc k = omega arith in
+    let f : room - length s - 1 ≡ k = omega arith in
+    let l : set (replicate (room - length s) 0 ++ s) (room - length s - 1) b ≡ replicate k 0 ++ (b ∷ s) = rw (f, e) (zeros-less k b s) in
     λ i. record { bytes = l i; from = f i }
 
 -- a text that is in order, with one byte more in front
-module _ (t : Text) (b : ℕ) (ok : t ≡ right (shown t)) (room : 0 < t .from) where
+module _ (t : Text) (b : ℕ) (ok : t ≡ right (shown t)) (free : 0 < t .from) where
   pub front-is : inFront t b ≡ right (b ∷ shown t)
   front-is =
-      let h : t .from ≡ 24 - length (shown t) = ap (λ (u : Text). u .from) ok in
+      let h : t .from ≡ room - length (shown t) = ap (λ (u : Text). u .from) ok in
       ap (λ (u : Text). inFront u b) ok ∙ right-front b (shown t) (omega arith)
 
 -- what is left of a number of at most k digits after its last digit
@@ -87,25 +83,3 @@ decimal-length (suc k) n h = elim (decLt n 10) [
   | yes l ↦ rw (decimal-one n l) (omega arith)
   | no l ↦ rw (decimal-more n (omega arith), length-append) (omega (arith, decimal-length k (n / 10) (omega arith)))
 ]
-
--- the text of an amount, by its sign
-abbrev pub unsigned : ℕ → List ℕ
-unsigned n = decimal (n / 100) ++ (46 ∷ digit (n / 10) ∷ digit n ∷ [])
-
-pub kroner-loss : (z : ℤ) → ltZ z (pos 0) ≡ true → kroner z ≡ 45 ∷ unsigned (natAbs z)
-unfolding kroner
-kroner-loss (pos n) h = absurd (omega ints)
-kroner-loss (negsuc n) h = refl
-
-pub kroner-gain : (z : ℤ) → ltZ z (pos 0) ≡ false → kroner z ≡ unsigned (natAbs z)
-unfolding kroner
-kroner-gain (pos n) h = refl
-kroner-gain (negsuc n) h = absurd (omega ints)
-
--- the text of any i64 but for its sign has at most 20 bytes, so that 24 hold it with its sign
-pub unsigned-short : (n : ℕ) → n ≤ 2 ^ 63 → length (unsigned n) ≤ 20
-unsigned-short n h = rw length-append (omega (arith, decimal-length 16 (n / 100) (omega arith)))
-
-pub size-bound : (z : ℤ) → mag z < 2 ^ 63 → natAbs z ≤ 2 ^ 63
-size-bound (pos n) h = omega arith
-size-bound (negsuc n) h = omega arith

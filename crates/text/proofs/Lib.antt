@@ -1,0 +1,3 @@
+-- What is proved of texts beside the functions' own contracts.
+pub mod Decimal
+pub mod Determined

@@ -1,0 +1,2 @@
+-- What a text holds.
+pub mod Text

@@ -1,0 +1,44 @@
+//! Records written from their fields.
+
+use crate::record::RECORD;
+
+pub type Record = [u8; RECORD];
+
+pub fn put(record: &mut [u8], first: usize, last: usize, value: u64) {
+    for (k, byte) in record[first..=last].iter_mut().enumerate() {
+        *byte = (value >> (8 * k)) as u8;
+    }
+}
+
+pub fn class(parent: u64, points: u64, share: u64) -> Record {
+    let mut record = [0; RECORD];
+    record[0] = b'C';
+    put(&mut record, 2, 3, parent);
+    put(&mut record, 4, 5, points);
+    put(&mut record, 6, 7, share);
+    record
+}
+
+/// The four amounts are fixing today, fixing before, Par and Adj.
+pub fn instrument(product: u64, class: u64, days: u64, amounts: [u64; 4]) -> Record {
+    let mut record = [0; RECORD];
+    record[0] = b'I';
+    put(&mut record, 1, 1, product);
+    put(&mut record, 2, 3, class);
+    put(&mut record, 4, 5, days);
+    for (k, amount) in amounts.into_iter().enumerate() {
+        put(&mut record, 8 + 4 * k, 11 + 4 * k, amount);
+    }
+    record
+}
+
+pub fn position(side: u64, instrument: u64, quantity: u64, price: u64, traded: u64) -> Record {
+    let mut record = [0; RECORD];
+    record[0] = b'P';
+    put(&mut record, 1, 1, side);
+    put(&mut record, 2, 3, instrument);
+    put(&mut record, 4, 7, quantity);
+    put(&mut record, 8, 11, price);
+    put(&mut record, 12, 12, traded);
+    record
+}
