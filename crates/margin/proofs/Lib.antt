@@ -1,0 +1,3 @@
+-- What is proved of the call beside the functions' own contracts.
+pub mod Shapes
+pub mod Counted

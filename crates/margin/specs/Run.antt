@@ -1,0 +1,20 @@
+-- The three promises of a run over a book, with the rows and choice lent, and what these hold afterwards.
+use mathlib.Core.Path.{_≡_}
+use mathlib.Core.List.{List}
+use Prim.Native.Nat.{ℕ}
+use lib.IntN.{ℤ}
+use lib.ListN.{length}
+use Rattle.paper.specs.declared.Shape.{Shape}
+use Rattle.paper.specs.declared.Answer.{Answer}
+use Rattle.paper.specs.declared.Verdict.the-variants.{Sound}
+use Rattle.paper.specs.Refusals.{verdictOn}
+use Rattle.paper.specs.Answers.{answerOf, answerTotals, rowsAfter, choiceAfter, LowestOfBook}
+
+pub record Ran (b : List ℕ) (rows : List ℤ) (choice : List ℕ) (answer : Answer) (rows′ : List ℤ) (choice′ : List ℕ) : Type 0 where
+  -- the code, the place and the totals, on acceptance and on refusal
+  pub answers : answer ≡ answerOf b (length rows) (length choice)
+  -- both buffers afterwards: the paper's on acceptance, unaltered on refusal
+  pub rows-hold : rows′ ≡ rowsAfter b rows choice
+  pub choice-holds : choice′ ≡ choiceAfter b rows choice
+  -- on acceptance: no allowed choice has a lower total than the cross margin, and the choice handed back is one and has it
+  pub lowest : (s : Shape) → verdictOn b (length rows) (length choice) ≡ Sound s → LowestOfBook b s (answerTotals answer .cross) choice′
