@@ -32,3 +32,9 @@ unsigned-short n h = rw length-append (omega (arith, decimal-length 16 (n / 100)
 pub size-bound : (z : ℤ) → mag z < 2 ^ 63 → natAbs z ≤ 2 ^ 63
 size-bound (pos n) h = omega arith
 size-bound (negsuc n) h = omega arith
+
+-- the text of any i64
+pub kroner-short : (z : ℤ) → mag z < 2 ^ 63 → length (kroner z) ≤ 21
+unfolding kroner
+kroner-short (pos n) h = let l = unsigned-short n (omega arith) in omega arith
+kroner-short (negsuc n) h = let l = unsigned-short (suc n) (omega arith) in omega arith

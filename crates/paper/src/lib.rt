@@ -3,7 +3,7 @@ ghost use mathlib.Core.Path.{_≡_};
 ghost use lib.IntN.{ℤ, pos, _+ℤ_};
 ghost use mir.Syntax.{w64};
 ghost use mir.Val.{SFits};
-ghost use Rattle.paper.specs.Answers.{noTotals, addMark, addNaked, addCross};
+ghost use Rattle.paper.specs.Answers.{codeOf, answerCode, answerPlace, answerTotals, noTotals, addMark, addNaked, addCross};
 
 // A class record's fields.
 pub struct Class {
@@ -60,6 +60,26 @@ pub enum Fault {
     Choice,
 }
 
+impl Fault {
+    // The table's number for it.
+    pub fn code(self) -> u64
+        ensures { λ r. ⌜ r ≡ codeOf self ⌝ }
+    {
+        match self {
+            Fault::Length => 1,
+            Fault::Letter => 2,
+            Fault::Order => 3,
+            Fault::Limit => 4,
+            Fault::Reserved => 5,
+            Fault::Reference => 6,
+            Fault::Range => 7,
+            Fault::Points => 8,
+            Fault::Rows => 9,
+            Fault::Choice => 10,
+        }
+    }
+}
+
 // What the tests of one record find.
 pub enum Finding {
     Clean,
@@ -76,6 +96,36 @@ pub enum Verdict {
 pub enum Answer {
     Accepted(Totals),
     Refused(Fault, usize),
+}
+
+impl Answer {
+    pub fn code(self) -> u64
+        ensures { λ r. ⌜ r ≡ answerCode self ⌝ }
+    {
+        match self {
+            Answer::Accepted(_) => 0,
+            Answer::Refused(f, _) => f.code(),
+        }
+    }
+
+    pub fn place(self) -> usize
+        ensures { λ r. ⌜ r ≡ answerPlace self ⌝ }
+    {
+        match self {
+            Answer::Accepted(_) => 0,
+            Answer::Refused(_, place) => place,
+        }
+    }
+
+    // Zero totals where refused.
+    pub fn totals(self) -> Totals
+        ensures { λ r. ⌜ r ≡ answerTotals self ⌝ }
+    {
+        match self {
+            Answer::Accepted(t) => t,
+            Answer::Refused(_, _) => Totals::none(),
+        }
+    }
 }
 
 // The running totals, in whole øre: each method takes them by value and hands them back with one amount more.

@@ -1,0 +1,3 @@
+-- What is proved of lines beside the functions' own contracts.
+pub mod Fields
+pub mod Determined
