@@ -1,21 +1,9 @@
 -- Each public function's contract allows one result. Assumes nothing.
 use Rattle.amount.proofs.Outcomes.{OneResult, coincide}
-use Rattle.book.proofs.fields.byte.Reads as byte-reads
-use Rattle.book.proofs.fields.le16.Reads as le16-reads
-use Rattle.book.proofs.fields.le32.Reads as le32-reads
 use Rattle.book.proofs.fields.class_at.Reads as class-at-reads
 use Rattle.book.proofs.fields.instrument_at.Reads as instrument-at-reads
 use Rattle.book.proofs.fields.position_at.Reads as position-at-reads
 use Rattle.book.proofs.scan.Reads as scan-reads
-
-byte : OneResult byte-reads.Post
-byte κs a x y e f = coincide
-
-le16 : OneResult le16-reads.Post
-le16 κs a x y e f = coincide
-
-le32 : OneResult le32-reads.Post
-le32 κs a x y e f = coincide
 
 class-at : OneResult class-at-reads.Post
 class-at κs a x y e f = coincide

@@ -1,6 +1,6 @@
 // Whether a book is sound: records of 32 bytes, classes, then instruments, then positions.
 ghost use mathlib.Core.Path.{_≡_};
-ghost use Prim.Native.Nat.{ℕ, _+_, _*_, _%_, _≤_};
+ghost use Prim.Native.Nat.{_+_, _*_, _%_, _≤_};
 ghost use lib.ListN.{length};
 ghost use Rattle.paper.specs.Records.{classAt, shapeOf};
 ghost use Rattle.paper.specs.Refusals.{verdictOf};
@@ -9,6 +9,7 @@ use paper::Finding;
 use paper::Shape;
 use paper::Verdict;
 
+mod bytes; // bytes.rt: little-endian numbers at a byte of a record
 pub mod fields; // fields.rt: a record's fields, read out of the bytes
 mod ranges; // ranges.rt: the ranges of the fields, by product
 mod tests; // tests.rt: the questions that each record is asked, in the table's order
@@ -21,7 +22,7 @@ fn first_points(book: &[u8]) -> usize
     if book.len() == 0 {
         return 0;
     }
-    fields::le16(book, 0, 4) as usize
+    bytes::le16(book, 0, 4) as usize
 }
 
 // The records before r, and record r with them.

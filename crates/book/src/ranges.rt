@@ -1,9 +1,6 @@
 // The ranges of the fields; the product decides those of an instrument's.
 ghost use mathlib.Core.Path.{_≡_};
-ghost use mathlib.Core.Bool.{Bool};
-ghost use Prim.Native.Nat.{ℕ, _+_, _*_, _<_, _≤_};
-ghost use lib.IntN.{ℤ, pos};
-ghost use Rattle.paper.specs.Refusals.{within as withinOf, pointsFit, shareFits, daysFit, priceFits, parFits, adjFits, quantityFits, carriedFits, classFits, instrumentFits, positionFits};
+ghost use Rattle.paper.specs.Refusals.{within as withinOf, pointsFit, daysFit, priceFits, parFits, adjFits, carriedFits, classFits, instrumentFits, positionFits};
 use paper::Class;
 use paper::Instrument;
 use paper::Position;

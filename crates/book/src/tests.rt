@@ -1,11 +1,11 @@
 // The questions that each record is asked, in the order of the refusal table: whether the code is given.
 ghost use mathlib.Core.Path.{_≡_};
-ghost use mathlib.Core.Bool.{Bool, false};
-ghost use Prim.Native.Nat.{ℕ, _+_, _*_, _<_, _≤_};
+ghost use mathlib.Core.Bool.{false};
+ghost use Prim.Native.Nat.{_+_, _*_, _≤_};
 ghost use lib.ListN.{length};
 ghost use Rattle.paper.specs.Records.{kindOf, kindAt};
 ghost use Rattle.paper.specs.Refusals.{kindBefore, letterFault, orderFault, limitFault, zeros as zerosOf, reservedFault, parentRefers, classRefers, instrumentRefers, referenceFault, rangeFault, pointsFault, tests, firstGiven};
-use crate::fields::byte;
+use crate::bytes::byte;
 use crate::fields::class_at;
 use crate::fields::instrument_at;
 use crate::fields::position_at;

@@ -3,8 +3,8 @@ use native.Mathlib.Omega.{arith}
 use borrow.Author.Needs.{needs}
 use lib.IntN.{pos}
 use Rattle.amount.proofs.Ints.{back}
-use Rattle.book.proofs.fields.signed.Statement.{statement}
-use Rattle.book.proofs.fields.signed.Tie as tie
+use Rattle.book.proofs.bytes.signed.Statement.{statement}
+use Rattle.book.proofs.bytes.signed.Tie as tie
 
 le32-requires : tie.Need-le32-requires
 le32-requires c κs = search needs

@@ -1,7 +1,7 @@
 use borrow.Author.Needs.{needs}
 use Rattle.paper.specs.Records.{le16}
-use Rattle.book.proofs.fields.le16.Statement.{statement}
-use Rattle.book.proofs.fields.le16.Tie as tie
+use Rattle.book.proofs.bytes.le16.Statement.{statement}
+use Rattle.book.proofs.bytes.le16.Tie as tie
 
 byte-requires : tie.Need-byte-requires
 byte-requires c κs = search needs

@@ -1,7 +1,7 @@
 use borrow.Author.Needs.{needs}
 use Rattle.paper.specs.Records.{le32}
-use Rattle.book.proofs.fields.le32.Statement.{statement}
-use Rattle.book.proofs.fields.le32.Tie as tie
+use Rattle.book.proofs.bytes.le32.Statement.{statement}
+use Rattle.book.proofs.bytes.le32.Tie as tie
 
 le16-requires : tie.Need-le16-requires
 le16-requires c κs = search needs
