@@ -1,8 +1,10 @@
 // The one call of the desk: a book and two buffers in, the answer and the figures out. Nothing is to be checked first.
 ghost use mathlib.Core.Path.{_≡_};
-ghost use Prim.Native.Nat.{ℕ, _*_, _≤_};
-ghost use Rattle.paper.specs.Refusals.{verdictOn, withRoom};
+ghost use Prim.Native.Nat.{ℕ, _*_, _<_, _≤_};
+ghost use Rattle.paper.specs.Refusals.{verdictOf, verdictOn, withRoom};
+ghost use Rattle.paper.specs.Answers.{walkOf};
 ghost use Rattle.paper.specs.declared.Verdict.the-variants.{Sound};
+ghost use Rattle.margin.specs.Items.{itemFor, itemOf};
 use paper::Fault;
 use paper::Shape;
 use paper::Verdict;
@@ -36,5 +38,42 @@ fn admitted(book: &[u8], rows: usize, choice: usize) -> Verdict
     match verdict {
         Verdict::Sound(s) => with_room(s, whole, rows, choice),
         Verdict::Refused(f, place) => Verdict::Refused(f, place),
+    }
+}
+
+// The amount of instrument i at a point of the scale.
+fn amount_of(book: &[u8], s: Shape, i: usize, point: usize) -> i64
+    requires { ⌜ (verdictOf (now book) ≡ Sound s) × (i < s .instruments) × (point < s .points) ⌝ }
+    ensures { λ z. ⌜ z ≡ walkOf (now (book .entry)) s .tree .amount i point ⌝ }
+{
+    let x = book::fields::instrument_at(book, s.classes + i);
+    let held = vector::held(book, s, i);
+    vector::amount_at(x, s.points, held, point)
+}
+
+// An item of a sound book, where it has such an item and such a point.
+fn item_of(book: &[u8], s: Shape, i: usize, point: usize) -> Item
+    requires { ⌜ verdictOf (now book) ≡ Sound s ⌝ }
+    ensures { λ r. ⌜ r ≡ itemFor (now (book .entry)) i point (Sound s) ⌝ }
+{
+    let instruments = s.instruments;
+    let points = s.points;
+    if i < instruments {} else {
+        return Item::Nothing;
+    }
+    if point < points {} else {
+        return Item::Nothing;
+    }
+    Item::Amount(amount_of(book, s, i, point))
+}
+
+// The amount of an item at a point of a book, whatever the book.
+pub fn item_at(book: &[u8], i: usize, point: usize) -> Item
+    ensures { λ r. ⌜ r ≡ itemOf (now (book .entry)) i point ⌝ }
+{
+    let verdict = book::scan(book);
+    match verdict {
+        Verdict::Sound(s) => item_of(book, s, i, point),
+        Verdict::Refused(_, _) => Item::Nothing,
     }
 }

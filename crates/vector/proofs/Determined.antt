@@ -6,10 +6,13 @@ use denote.Ref.{now}
 use Rattle.amount.proofs.Outcomes.{OneOutcome, OneResult, coincide}
 use Rattle.vector.proofs.amount_at.Reads as amount-at-reads
 use Rattle.vector.proofs.fill.Reads as fill-reads
+use Rattle.vector.proofs.held.Reads as held-reads
 use Rattle.vector.proofs.hold.Reads as hold-reads
 use Rattle.vector.proofs.lowest.Reads as lowest-reads
 use Rattle.vector.proofs.mark.Reads as mark-reads
+use Rattle.vector.proofs.marks.Reads as marks-reads
 use Rattle.vector.proofs.naked.Reads as naked-reads
+use Rattle.vector.proofs.nakeds.Reads as nakeds-reads
 
 amount-at : OneResult amount-at-reads.Post
 amount-at κs a x y e f = coincide
@@ -28,3 +31,12 @@ mark κs a x y e f = coincide
 
 hold : OneResult hold-reads.Post
 hold κs a x y e f = coincide
+
+held : OneResult held-reads.Post
+held κs a x y e f = coincide
+
+marks : OneResult marks-reads.Post
+marks κs a x y e f = coincide
+
+nakeds : OneResult nakeds-reads.Post
+nakeds κs a x y e f = coincide

@@ -1,14 +1,15 @@
 -- What the positions hold of each instrument, position by position. Bought and sold together bound the net, and those of
 -- all instruments are no more than the positions' quantities. Assumes nothing.
-use mathlib.Core.Path.{_≡_, refl}
+use mathlib.Core.Path.{_≡_, refl, _∙_}
 use mathlib.Core.Bool.{Bool, true, false, cond}
-use Prim.Native.Nat.{ℕ, zero, suc, _*_, _≤_, _<_}
+use Prim.Native.Nat.{ℕ, zero, suc, _+_, _*_, _≤_, _<_}
 use native.Mathlib.Nat.{suc-mul}
-use native.Mathlib.Decide.{decLt}
+use native.Mathlib.Numerals.{add-one}
+use native.Mathlib.Decide.{ℕ-discrete, decLt}
 use native.Mathlib.Omega.{arith}
 use borrow.Author.Tests.{eq-eqb, ne-eqb}
 use lib.Dec.{eqb}
-use lib.IntN.{ℤ, pos, negℤ, natAbs, +ℤ-idr}
+use lib.IntN.{ℤ, pos, negℤ, natAbs, _+ℤ_, +ℤ-idr}
 use lib.Signed.{_≤ℤ_, ≤ℤ-refl}
 use Rattle.paper.specs.declared.Position.{Position}
 use Rattle.paper.specs.Sums.{sum, only}
@@ -32,6 +33,13 @@ pub sum-most : (n c : ℕ) (f : ℕ → ℤ) → ((k : ℕ) → k < n → f k �
 unfolding sum
 sum-most zero c f e = omega ints
 sum-most (suc n) c f e = omega (ints, sum-most n c f (λ k h. e k (omega arith)), e n (omega arith), plus (sum n f) (f n), suc-mul n c)
+
+-- one more of a sum, on top of what there is
+pub sum-next : (z : ℤ) (n : ℕ) (f : ℕ → ℤ) → (z +ℤ sum n f) +ℤ f n ≡ z +ℤ sum (n + 1) f
+unfolding sum
+sum-next z n f =
+    rw add-one
+    (omega (ints, plus (z +ℤ sum n f) (f n), plus z (sum n f), plus z (sum n f +ℤ f n), plus (sum n f) (f n)))
 
 pub net-gross : (ps : Positions) (i : ℕ) → pos (natAbs (netOf ps i)) ≤ℤ grossOf ps i
 unfolding netOf grossOf
@@ -91,3 +99,11 @@ module _ (each : ℕ → Position) (n i : ℕ) where
   pub held-past : (each n .instrument ≡ i → ⊥) → heldOf (firstOf each (suc n)) i ≡ heldOf (firstOf each n) i
   unfolding netOf grossOf sum
   held-past e = rw (ne-eqb (each n .instrument) i e) (simp +ℤ-idr)
+
+  pub held-next :
+      heldOf (firstOf each (suc n)) i
+      ≡ cond (eqb (each n .instrument) i) (heldWith (heldOf (firstOf each n) i) (each n)) (heldOf (firstOf each n) i)
+  held-next = elim (ℕ-discrete (each n .instrument) i) [
+    | yes e ↦ held-with e ∙ rw (eq-eqb (each n .instrument) i e)
+    | no e ↦ held-past e ∙ rw (ne-eqb (each n .instrument) i e)
+  ]

@@ -5,5 +5,6 @@ pub mod Ranges
 pub mod Bounds
 pub mod Closed
 pub mod Gross
+pub mod Book
 pub mod Listed
 pub mod Determined

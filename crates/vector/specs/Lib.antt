@@ -1,2 +1,3 @@
 -- What this crate's contracts say beyond the paper.
 pub mod Holdings
+pub mod Parts

@@ -1,17 +1,24 @@
-// One instrument: the amount of what is held of it at a point, its vector, its naked margin and its mark-to-market.
+// One instrument: the amount of what is held of it at a point, its vector, its naked margin and its mark-to-market. Over
+// a sound book: what is held of an instrument, and the totals of both.
 ghost use mathlib.Core.Path.{_≡_};
 ghost use mathlib.Core.Bool.{true, cond};
 ghost use mathlib.Core.List.{_++_};
 ghost use Prim.Native.Nat.{_-_, _<_, _≤_};
+ghost use lib.Dec.{eqb};
 ghost use lib.IntN.{pos, natAbs, negℤ, _*ℤ_};
 ghost use lib.ListN.{length, getD, drop};
 ghost use Rattle.paper.specs.Sums.{listed, lowest as lowestOf};
-ghost use Rattle.paper.specs.Refusals.{instrumentFits, positionFits};
-ghost use Rattle.paper.specs.Products.{shift as shiftOf, rising, falling, fra as fraOf, future as futureOf, bond as bondOf, amountAt, nakedOf, move, markOne, markOf};
+ghost use Rattle.paper.specs.declared.Verdict.the-variants.{Sound};
+ghost use Rattle.paper.specs.Refusals.{instrumentFits, positionFits, verdictOf};
+ghost use Rattle.paper.specs.Products.{termsOf, positionsOf, heldOf, shift as shiftOf, rising, falling, fra as fraOf, future as futureOf, bond as bondOf, amountAt, nakedOf, nakedTotal, move, markOne, markOf, markTotal};
+ghost use Rattle.paper.specs.Answers.{addMark, addNaked};
 ghost use Rattle.vector.specs.Holdings.{heldWith};
+ghost use Rattle.vector.specs.Parts.{markAt, nakedAt};
 use paper::Holding;
 use paper::Instrument;
 use paper::Position;
+use paper::Shape;
+use paper::Totals;
 use rate::Rate;
 
 // What a hundredth of a basis point is worth on a contract of product 2.
@@ -191,4 +198,81 @@ pub fn hold(held: Holding, p: Position) -> Holding
         net: amount::plus(held.net, turned(p.side == 1, quantity)),
         gross: amount::plus(held.gross, quantity),
     }
+}
+
+// A position of another instrument leaves what is held.
+fn hold_of(held: Holding, p: Position, i: usize) -> Holding
+    requires { ⌜ (natAbs (held .net) ≤ 4000000000000000000) × (natAbs (held .gross) ≤ 4000000000000000000) ⌝ }
+    ensures { λ r. ⌜ r ≡ cond (eqb (p .instrument) i) (heldWith held p) held ⌝ }
+{
+    let named = p.instrument as usize;
+    if named == i { hold(held, p) } else { held }
+}
+
+// What a sound book's positions hold of instrument i.
+pub fn held(book: &[u8], s: Shape, i: usize) -> Holding
+    requires { ⌜ verdictOf (now book) ≡ Sound s ⌝ }
+    ensures { λ r. ⌜ r ≡ heldOf (positionsOf (now (book .entry)) s) i ⌝ }
+{
+    let first = s.classes + s.instruments;
+    let n = s.positions;
+    let mut held = Holding { net: 0, gross: 0 };
+    let mut at = 0;
+    while at < n {
+        let p = book::fields::position_at(book, first + at);
+        held = hold_of(held, p, i);
+        at += 1;
+    }
+    held
+}
+
+// The mark-to-market of position k of a sound book.
+fn mark_at(book: &[u8], s: Shape, k: usize) -> i64
+    requires { ⌜ (verdictOf (now book) ≡ Sound s) × (k < s .positions) ⌝ }
+    ensures { λ r. ⌜ r ≡ markAt (now (book .entry)) s k ⌝ }
+{
+    let p = book::fields::position_at(book, s.classes + s.instruments + k);
+    let x = book::fields::instrument_at(book, s.classes + (p.instrument as usize));
+    mark(x, p)
+}
+
+// The totals with the mark-to-market of every position of a sound book.
+pub fn marks(book: &[u8], s: Shape, t: Totals) -> Totals
+    requires { ⌜ (verdictOf (now book) ≡ Sound s) × (natAbs (t .mark) ≤ 4000000000000000000) ⌝ }
+    ensures { λ r. ⌜ r ≡ addMark t (markTotal (termsOf (now (book .entry)) s) (positionsOf (now (book .entry)) s)) ⌝ }
+{
+    let n = s.positions;
+    let mut totals = t;
+    let mut k = 0;
+    while k < n {
+        let amount = mark_at(book, s, k);
+        totals = totals.with_mark(amount);
+        k += 1;
+    }
+    totals
+}
+
+// The naked margin of instrument i of a sound book.
+fn naked_at(book: &[u8], s: Shape, i: usize) -> i64
+    requires { ⌜ (verdictOf (now book) ≡ Sound s) × (i < s .instruments) ⌝ }
+    ensures { λ r. ⌜ r ≡ nakedAt (now (book .entry)) s i ⌝ }
+{
+    let x = book::fields::instrument_at(book, s.classes + i);
+    naked(x, s.points, held(book, s, i))
+}
+
+// The totals with the naked margin of every instrument of a sound book.
+pub fn nakeds(book: &[u8], s: Shape, t: Totals) -> Totals
+    requires { ⌜ (verdictOf (now book) ≡ Sound s) × (natAbs (t .naked) ≤ 4000000000000000000) ⌝ }
+    ensures { λ r. ⌜ r ≡ addNaked t (nakedTotal (termsOf (now (book .entry)) s) (positionsOf (now (book .entry)) s)) ⌝ }
+{
+    let n = s.instruments;
+    let mut totals = t;
+    let mut i = 0;
+    while i < n {
+        let amount = naked_at(book, s, i);
+        totals = totals.with_naked(amount);
+        i += 1;
+    }
+    totals
 }
