@@ -5,10 +5,17 @@ use Prim.Native.Nat.{ℕ}
 use lib.IntN.{ℤ}
 use lib.ListN.{length}
 use Rattle.paper.specs.declared.Shape.{Shape}
+use Rattle.paper.specs.declared.Totals.{Totals}
 use Rattle.paper.specs.declared.Answer.{Answer}
 use Rattle.paper.specs.declared.Verdict.the-variants.{Sound}
 use Rattle.paper.specs.Refusals.{verdictOn}
-use Rattle.paper.specs.Answers.{answerOf, answerTotals, rowsAfter, choiceAfter, LowestOfBook}
+use Rattle.paper.specs.Answers.{walkOf, figures, rowsFor, choiceFor, answerOf, answerTotals, rowsAfter, choiceAfter, LowestOfBook}
+
+-- the figures of a sound book that has room, and the buffers afterwards
+pub record Figured (b : List ℕ) (s : Shape) (rows : List ℤ) (choice : List ℕ) (totals : Totals) (rows′ : List ℤ) (choice′ : List ℕ) : Type 0 where
+  pub totalled : totals ≡ figures b s
+  pub rows-hold : rows′ ≡ rowsFor (walkOf b s) rows
+  pub choice-holds : choice′ ≡ choiceFor (walkOf b s) choice
 
 pub record Ran (b : List ℕ) (rows : List ℤ) (choice : List ℕ) (answer : Answer) (rows′ : List ℤ) (choice′ : List ℕ) : Type 0 where
   -- the code, the place and the totals, on acceptance and on refusal

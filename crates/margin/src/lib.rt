@@ -1,12 +1,17 @@
 // The one call of the desk: a book and two buffers in, the answer and the figures out. Nothing is to be checked first.
 ghost use mathlib.Core.Path.{_≡_};
-ghost use Prim.Native.Nat.{ℕ, _*_, _<_, _≤_};
+ghost use Prim.Native.Nat.{ℕ, _+_, _*_, _<_, _≤_};
 ghost use Rattle.paper.specs.Refusals.{verdictOf, verdictOn, withRoom};
-ghost use Rattle.paper.specs.Answers.{walkOf};
+ghost use lib.ListN.{length};
+ghost use Rattle.paper.specs.Answers.{walkOf, figures as figuresOf, rowsFor, choiceFor};
+ghost use Rattle.margin.specs.Run.{Ran, Figured};
+ghost use Rattle.margin.specs.Counted.{Counted};
 ghost use Rattle.paper.specs.declared.Verdict.the-variants.{Sound};
 ghost use Rattle.margin.specs.Items.{itemFor, itemOf};
+use paper::Answer;
 use paper::Fault;
 use paper::Shape;
+use paper::Totals;
 use paper::Verdict;
 
 // What is known of an item at a point.
@@ -38,6 +43,41 @@ fn admitted(book: &[u8], rows: usize, choice: usize) -> Verdict
     match verdict {
         Verdict::Sound(s) => with_room(s, whole, rows, choice),
         Verdict::Refused(f, place) => Verdict::Refused(f, place),
+    }
+}
+
+// The figures of a sound book that has room: the totals by value through positions, instruments and roots, the rows, the choice.
+fn figures(book: &[u8], s: Shape, rows: &mut [i64], choice: &mut [u16]) -> Totals
+    requires { ⌜ (verdictOf (now book) ≡ Sound s) × (s .classes * s .points ≤ length (now rows)) × (s .classes + s .instruments ≤ length (now choice)) ⌝ }
+    ensures { λ r. ⌜ Figured (now (book .entry)) s (now (rows .entry)) (now (choice .entry)) r (now (rows .exit)) (now (choice .exit)) ⌝ }
+{
+    let marked = vector::marks(book, s, Totals::none());
+    let bare = vector::nakeds(book, s, marked);
+    tree::fill_rows(book, s, rows);
+    let totals = tree::cross(book, s, rows, bare);
+    tree::choose(book, s, rows, choice);
+    totals
+}
+
+// The run of a book.
+pub fn run(book: &[u8], rows: &mut [i64], choice: &mut [u16]) -> Answer
+    ensures { λ r. ⌜ Ran (now (book .entry)) (now (rows .entry)) (now (choice .entry)) r (now (rows .exit)) (now (choice .exit)) ⌝ }
+{
+    let verdict = admitted(book, rows.len(), choice.len());
+    match verdict {
+        Verdict::Sound(s) => Answer::Accepted(figures(book, s, rows, choice)),
+        Verdict::Refused(f, place) => Answer::Refused(f, place),
+    }
+}
+
+// The run of a book of which the first records were kept, and the bytes of the whole were counted.
+pub fn run_counted(kept: &[u8], size: usize, rows: &mut [i64], choice: &mut [u16]) -> Answer
+    ensures { λ r. ⌜ Counted (now (kept .entry)) size (now (rows .entry)) (now (choice .entry)) r (now (rows .exit)) (now (choice .exit)) ⌝ }
+{
+    if size % 32 == 0 {
+        run(kept, rows, choice)
+    } else {
+        Answer::Refused(Fault::Length, size / 32)
     }
 }
 

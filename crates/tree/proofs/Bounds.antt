@@ -21,6 +21,7 @@ use Rattle.amount.proofs.Ints.{ints, plus, neg, sign, abs}
 use Rattle.amount.proofs.Sums.{sum-mono, sum-zero, sum-one}
 use Rattle.amount.proofs.Lowest.{Lowest, lowest-is}
 use Rattle.window.proofs.Near.{LowestNear, near-is}
+use Rattle.tree.specs.Buffers.{resultSoFar, fromRoot}
 use Rattle.tree.proofs.Rows.{Valid, row-is}
 use Rattle.tree.proofs.Theorem.{lowest-total}
 
@@ -118,15 +119,9 @@ module _ (t : Tree) (w : ℕ → ℕ) (B : ℕ) where
   abbrev pub rootWeight : ℕ → ℤ
   rootWeight k = only (isRoot t k) (weightOf t w B k)
 
--- a class's result at x as far as its first n classes and first m instruments go
-abbrev pub resultSoFar : Tree → ℕ → ℕ → ℕ → ℕ → ℤ
-resultSoFar t k x n m =
-    sum n (λ c. only (eqb (t .parent c) k) (lowestNear (t .points) (rowOf t c) (t .reach k) x))
-    +ℤ sum m (λ i. only (eqb (t .home i) k) (lowestNear (t .points) (t .amount i) (t .reach k) x))
-
 -- the cross margin as far as the first n classes go
 abbrev pub crossSoFar : Tree → ℕ → ℤ
-crossSoFar t n = sum n (λ k. only (isRoot t k) (lowest (rowOf t k) 0 (t .points - 1)))
+crossSoFar t n = sum n (fromRoot t (rowOf t))
 
 -- the naked total as far as the first n instruments go
 abbrev pub nakedSoFar : Tree → ℕ → ℤ
@@ -136,7 +131,7 @@ nakedSoFar t n = sum n (λ i. lowest (t .amount i) 0 (t .points - 1))
 pub record Bounded (t : Tree) (L : ℕ) : Type 0 where
   pub amount : (i x : ℕ) → i < t .instruments → x < t .points → natAbs (t .amount i x) ≤ L
   pub row : (k x : ℕ) → k < t .classes → x < t .points → natAbs (rowOf t k x) ≤ L
-  pub row-part : (k x n m : ℕ) → k < t .classes → x < t .points → n ≤ t .classes → m ≤ t .instruments → natAbs (resultSoFar t k x n m) ≤ L
+  pub row-part : (k x n m : ℕ) → k < t .classes → x < t .points → n ≤ t .classes → m ≤ t .instruments → natAbs (resultSoFar t (rowOf t) k x n m) ≤ L
   pub cross : natAbs (crossOf t (rowOf t)) ≤ L
   pub cross-part : (n : ℕ) → n ≤ t .classes → natAbs (crossSoFar t n) ≤ L
   pub naked-part : (n : ℕ) → n ≤ t .instruments → natAbs (nakedSoFar t n) ≤ L
@@ -228,9 +223,9 @@ module _ (t : Tree) (ok : Valid t) (w : ℕ → ℕ) (B W : ℕ) (load : Weighed
       ]
 
   -- as far as it is summed, a result is within its class's weight
-  pub result-within : (k x n m : ℕ) → k < classes → x < points → n ≤ classes → m ≤ instruments → Within (weightOf t w B k) (resultSoFar t k x n m)
+  pub result-within : (k x n m : ℕ) → k < classes → x < points → n ≤ classes → m ≤ instruments → Within (weightOf t w B k) (resultSoFar t (rowOf t) k x n m)
   result-within k x n m h l a b =
-      within-more (sum n (childWeight t w B k) +ℤ sum m (itemWeight t w B k)) (weightOf t w B k) (resultSoFar t k x n m)
+      within-more (sum n (childWeight t w B k) +ℤ sum m (itemWeight t w B k)) (weightOf t w B k) (resultSoFar t (rowOf t) k x n m)
       (within-add _ _ _ _
       (within-sum n (childWeight t w B k) _ (λ c d. within-only (eqb (parent c) k) _ _ (within-near points (rowOf t c) (weightOf t w B c) (reach k) x l (row-within c))))
       (within-sum m (itemWeight t w B k) _ (λ i d. within-only (eqb (home i) k) _ _ (within-near points (amount i) (pos (w i * B)) (reach k) x l (λ y e. amount-within i y (omega arith) e)))))
@@ -256,7 +251,7 @@ module _ (t : Tree) (ok : Valid t) (w : ℕ → ℕ) (B W : ℕ) (load : Weighed
   bounded L e = record {
     amount = λ i x h l. size (pos (w i * B)) (amount i x) (item-weighs i h) (amount-within i x h l);
     row = λ k x h l. size (weightOf t w B k) (rowOf t k x) (class-weighs k h) (row-within k x l);
-    row-part = λ k x n m h l a b. size (weightOf t w B k) (resultSoFar t k x n m) (class-weighs k h) (result-within k x n m h l a b);
+    row-part = λ k x n m h l a b. size (weightOf t w B k) (resultSoFar t (rowOf t) k x n m) (class-weighs k h) (result-within k x n m h l a b);
     cross = size (sum classes (rootWeight t w B)) (crossSoFar t classes) roots-weigh (cross-within classes (omega arith));
     cross-part = λ n a. size (sum classes (rootWeight t w B)) (crossSoFar t n) roots-weigh (cross-within n a);
     naked-part = λ n a. size (sum instruments (λ i. pos (w i * B))) (nakedSoFar t n) all-weigh (naked-within n a);

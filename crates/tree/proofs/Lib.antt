@@ -3,3 +3,8 @@ pub mod Only
 pub mod Rows
 pub mod Theorem
 pub mod Bounds
+pub mod Book
+pub mod Buffers
+pub mod Filled
+pub mod Read
+pub mod Determined

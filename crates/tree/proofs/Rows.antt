@@ -12,6 +12,7 @@ use Rattle.paper.specs.Windows.{lowestNear, chosenNear}
 use Rattle.paper.specs.Trees.{Tree, resultFrom, rowOf, chooseFrom, classChoice}
 use Rattle.amount.proofs.Sums.{sum-cong, settled}
 use Rattle.window.proofs.Near.{near-cong}
+use Rattle.tree.specs.Buffers.{fromClass}
 
 -- few enough classes that no class has the number that marks a root, points where there are classes, parents before
 -- their children, and every instrument at a class
@@ -25,11 +26,14 @@ module _ (t : Tree) (ok : Valid t) where
   open Tree t using (points, classes, parent, reach, instruments, home, amount)
 
   -- a class's result looks only at its children, which have larger numbers
-  from-children : (f g : ℕ → ℕ → ℤ) (k x : ℕ) → k < classes → ((c : ℕ) → c < classes → k < c → lowestNear points (f c) (reach k) x ≡ lowestNear points (g c) (reach k) x) → resultFrom t f k x ≡ resultFrom t g k x
-  from-children f g k x h e = ap₂ _+ℤ_ (sum-cong classes (λ c l. elim (ℕ-discrete (parent c) k) [
+  pub from-child : (f g : ℕ → ℕ → ℤ) (k x : ℕ) → k < classes → ((c : ℕ) → c < classes → k < c → lowestNear points (f c) (reach k) x ≡ lowestNear points (g c) (reach k) x) → (c : ℕ) → c < classes → fromClass t f k x c ≡ fromClass t g k x c
+  from-child f g k x h e c l = elim (ℕ-discrete (parent c) k) [
     | yes r ↦ rw (e c l (omega (arith, ok .before c l (omega (arith, ok .few)))))
     | no r ↦ rw (ne-eqb (parent c) k r)
-  ])) refl
+  ]
+
+  pub from-children : (f g : ℕ → ℕ → ℤ) (k x : ℕ) → k < classes → ((c : ℕ) → c < classes → k < c → lowestNear points (f c) (reach k) x ≡ lowestNear points (g c) (reach k) x) → resultFrom t f k x ≡ resultFrom t g k x
+  from-children f g k x h e = ap₂ _+ℤ_ (sum-cong classes (from-child f g k x h e)) refl
 
   -- the paper's sentence
   pub row-is : (k : ℕ) → k < classes → rowOf t k ≡ resultFrom t (rowOf t) k

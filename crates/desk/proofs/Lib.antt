@@ -1,0 +1,2 @@
+-- What is proved of the call beside its own contract.
+pub mod Determined

@@ -1,0 +1,2 @@
+-- What the call for C and Rust promises.
+pub mod Call

@@ -1,0 +1,28 @@
+// The same call for C and Rust. Slices pass as a pointer and a length, the five numbers of the answer through five pointers.
+ghost use Rattle.desk.specs.Call.{Called};
+
+// The run of a book. There is no buffer that could be too short, and nothing is to be checked first.
+#[no_mangle]
+pub extern "C" fn desk_run(
+    book: &[u8],
+    rows: &mut [i64],
+    choice: &mut [u16],
+    code: &mut u64,
+    place: &mut u64,
+    mark: &mut i64,
+    naked: &mut i64,
+    cross: &mut i64,
+)
+    ensures { λ u. ⌜ Called (now (book .entry)) (now (rows .entry)) (now (choice .entry)) (now (rows .exit)) (now (choice .exit)) (now (code .exit)) (now (place .exit)) (now (mark .exit)) (now (naked .exit)) (now (cross .exit)) ⌝ }
+{
+    let answer = margin::run(book, rows, choice);
+    *code = answer.code();
+    *place = answer.place() as u64;
+    let totals = answer.totals();
+    let marked = totals.mark;
+    *mark = marked;
+    let bare = totals.naked;
+    *naked = bare;
+    let crossed = totals.cross;
+    *cross = crossed;
+}

@@ -1,0 +1,2 @@
+-- What the tree's functions say of the buffers lent.
+pub mod Buffers
