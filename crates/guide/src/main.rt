@@ -1,0 +1,78 @@
+// The tables of the Danish guide: its two vectors, its result vector and its mortgage bond example, from two books.
+use libc::STDOUT_FILENO;
+use margin::Item;
+use paper::Answer;
+use text::Text;
+
+mod books; // books.rt: the two books
+
+// The bytes of a text.
+fn show_from(bytes: &[u8], from: usize) {
+    if from <= bytes.len() {
+        io::write_all(STDOUT_FILENO, &bytes[from..]);
+    }
+}
+
+// A name, a number and an amount.
+fn show(name: &[u8], k: usize, t: Text) {
+    io::write_all(STDOUT_FILENO, name);
+    io::print_decimal(STDOUT_FILENO, k as u64);
+    io::write_all(STDOUT_FILENO, b" ");
+    show_amount(t);
+}
+
+fn show_amount(t: Text) {
+    let bytes = t.bytes;
+    show_from(&bytes, t.from);
+    io::write_all(STDOUT_FILENO, b"\n");
+}
+
+// An instrument's amounts at all points.
+fn show_vector(name: &[u8], book: &[u8], i: usize) {
+    let mut point = 0;
+    while point < 31 {
+        match margin::item_at(book, i, point) {
+            Item::Amount(z) => show(name, point, kroner::write(z)),
+            Item::Nothing => {}
+        }
+        point += 1;
+    }
+}
+
+fn show_row(name: &[u8], row: &[i64]) {
+    let mut point = 0;
+    while point < row.len() {
+        show(name, point, kroner::write(row[point]));
+        point += 1;
+    }
+}
+
+// The class's row after a run.
+fn show_result(book: &[u8]) {
+    let mut rows = [0i64; 31];
+    let mut choice = [0u16; 3];
+    match margin::run(book, &mut rows, &mut choice) {
+        Answer::Accepted(_) => show_row(b"RESULT ", &rows),
+        Answer::Refused(_, _) => {}
+    }
+}
+
+// The open margin and the mark-to-market amount.
+fn show_totals(book: &[u8]) {
+    let mut rows = [0i64; 31];
+    let mut choice = [0u16; 2];
+    let totals = margin::run(book, &mut rows, &mut choice).totals();
+    io::write_all(STDOUT_FILENO, b"MBFH9 MARGIN ");
+    show_amount(kroner::write(totals.cross));
+    io::write_all(STDOUT_FILENO, b"MBFH9 MARK ");
+    show_amount(kroner::write(totals.mark));
+}
+
+fn main() {
+    let fra = books::fra();
+    show_vector(b"CFRAU9 ", &fra, 0);
+    show_vector(b"CFRAH9 ", &fra, 1);
+    show_result(&fra);
+    let bond = books::bond();
+    show_totals(&bond);
+}
