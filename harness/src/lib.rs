@@ -5,9 +5,12 @@ pub mod bench;
 pub mod books;
 pub mod brute;
 pub mod compare;
+#[cfg(feature = "linked")]
+pub mod desk;
 pub mod encode;
 pub mod faults;
 pub mod random;
 pub mod record;
 pub mod second;
+pub mod server;
 pub mod under_test;

@@ -1,10 +1,10 @@
-// The tables of the Danish guide: its two vectors, its result vector and its mortgage bond example, from two books.
+// The tables of the Danish guide: its two vectors, its result vector and its mortgage bond example. Standard input has the
+// two books: 1000 bought of CFRAU9 and 700 sold of CFRAH9, and 100 of MBFH9 bought today at 101.8.
+use libc::STDIN_FILENO;
 use libc::STDOUT_FILENO;
 use margin::Item;
 use paper::Answer;
 use text::Text;
-
-mod books; // books.rt: the two books
 
 // The bytes of a text.
 fn show_from(bytes: &[u8], from: usize) {
@@ -68,11 +68,22 @@ fn show_totals(book: &[u8]) {
     show_amount(kroner::write(totals.mark));
 }
 
+fn show_fra(book: &[u8]) {
+    show_vector(b"CFRAU9 ", book, 0);
+    show_vector(b"CFRAH9 ", book, 1);
+    show_result(book);
+}
+
+// Five records, then three.
+fn show_tables(books: &[u8]) {
+    if books.len() == 256 {
+        show_fra(&books[0..160]);
+        show_totals(&books[160..256]);
+    }
+}
+
 fn main() {
-    let fra = books::fra();
-    show_vector(b"CFRAU9 ", &fra, 0);
-    show_vector(b"CFRAH9 ", &fra, 1);
-    show_result(&fra);
-    let bond = books::bond();
-    show_totals(&bond);
+    let mut books = [0u8; 256];
+    io::read_full(STDIN_FILENO, &mut books);
+    show_tables(&books);
 }

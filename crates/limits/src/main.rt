@@ -18,7 +18,8 @@ fn main() {
     reserved(b"instrument", 2, 24, 32);
     reserved(b"position", 5, 13, 32);
     kinds();
-    pairs();
+    two_faults();
+    two_records();
     many(24, 0, 0);
     many(25, 0, 0);
     many(1, 64, 0);
@@ -302,8 +303,8 @@ fn kinds() {
     field(b"record 6", b"letter", 6, 0, 1, 73);
 }
 
-// Two faults in one record: the earlier code is given. Two faulty records: the earlier is named.
-fn pairs() {
+// Two faults in one record: the earlier code is given.
+fn two_faults() {
     case(
         b"letter and range in",
         b"record",
@@ -339,6 +340,10 @@ fn pairs() {
         over(1, 4, 2, 5),
         over(1, 6, 2, 10_001),
     );
+}
+
+// Two faulty records: the earlier is named.
+fn two_records() {
     case(
         b"range in record 2, points in",
         b"record",
