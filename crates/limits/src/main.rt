@@ -1,7 +1,6 @@
 // The refusals on either side of every limit: a line a case, with its name and what the scan answers.
 ghost use Prim.Native.Nat.{_<_};
 use libc::STDOUT_FILENO;
-use paper::Fault;
 use paper::Verdict;
 
 fn main() {
@@ -127,28 +126,13 @@ fn number(n: usize) {
     io::print_decimal(STDOUT_FILENO, n as u64);
 }
 
-fn code(f: Fault) -> usize {
-    match f {
-        Fault::Length => 1,
-        Fault::Letter => 2,
-        Fault::Order => 3,
-        Fault::Limit => 4,
-        Fault::Reserved => 5,
-        Fault::Reference => 6,
-        Fault::Range => 7,
-        Fault::Points => 8,
-        Fault::Rows => 9,
-        Fault::Choice => 10,
-    }
-}
-
 // The end of a line: what the scan answers.
 fn answer(verdict: Verdict) {
     match verdict {
         Verdict::Sound(_) => word(b": accepted"),
         Verdict::Refused(f, place) => {
             word(b": refused");
-            number(code(f));
+            number(f.code() as usize);
             number(place);
         }
     }
