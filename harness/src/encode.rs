@@ -42,3 +42,15 @@ pub fn position(side: u64, instrument: u64, quantity: u64, price: u64, traded: u
     put(&mut record, 12, 12, traded);
     record
 }
+
+/// The book after the guide's example: one root, 31 points, a window of 40 %.
+pub fn example() -> Vec<u8> {
+    [
+        class(65_535, 31, 4000),
+        instrument(1, 0, 91, [3_700_000, 3_690_000, 400_000, 20_000]),
+        instrument(1, 0, 91, [3_800_000, 3_800_000, 400_000, 20_000]),
+        position(1, 0, 1000, 0, 0),
+        position(2, 1, 700, 0, 0),
+    ]
+    .concat()
+}

@@ -27,21 +27,9 @@ const RESULT: [i64; 31] = [
     -389_279, -321_869, -254_469, -187_059,
 ];
 
-/// The guide's example: one root, 31 points, a window of 40 %.
-fn example() -> Vec<u8> {
-    [
-        encode::class(65_535, 31, 4000),
-        encode::instrument(1, 0, 91, [3_700_000, 3_690_000, 400_000, 20_000]),
-        encode::instrument(1, 0, 91, [3_800_000, 3_800_000, 400_000, 20_000]),
-        encode::position(1, 0, 1000, 0, 0),
-        encode::position(2, 1, 700, 0, 0),
-    ]
-    .concat()
-}
-
 #[test]
 fn vector_files() {
-    let book = example();
+    let book = encode::example();
     for point in 0..31 {
         assert_eq!(
             second::amount_at(&book, 0, point),
@@ -60,7 +48,7 @@ fn vector_files() {
 
 #[test]
 fn result_vector() {
-    let outcome = second::run(&example(), 31, 3);
+    let outcome = second::run(&encode::example(), 31, 3);
     assert_eq!(outcome.rows, RESULT.map(|kroner| 100 * kroner));
     assert_eq!(outcome.cross, -95_550_100);
 }
@@ -68,7 +56,7 @@ fn result_vector() {
 /// The two nodes of the result table: 3,30 % is node 0, 3,72 % node 12.
 #[test]
 fn chosen_nodes() {
-    assert_eq!(second::run(&example(), 31, 3).choice, [6, 0, 12]);
+    assert_eq!(second::run(&encode::example(), 31, 3).choice, [6, 0, 12]);
 }
 
 /// 100 bought MBFH9 at 101,8, fixing 101,7, Par 3 %, Adj 0,1 %.

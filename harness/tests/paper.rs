@@ -4,17 +4,6 @@ use harness::encode;
 use harness::record::decode;
 use harness::second::{self, kroner, rounded, width};
 
-fn example() -> Vec<u8> {
-    [
-        encode::class(65_535, 31, 4000),
-        encode::instrument(1, 0, 91, [3_700_000, 3_690_000, 400_000, 20_000]),
-        encode::instrument(1, 0, 91, [3_800_000, 3_800_000, 400_000, 20_000]),
-        encode::position(1, 0, 1000, 0, 0),
-        encode::position(2, 1, 700, 0, 0),
-    ]
-    .concat()
-}
-
 /// One root, one instrument, one contract.
 fn one(points: u64, product: u64, days: u64, amounts: [u64; 4], side: u64) -> Vec<u8> {
     [
@@ -29,14 +18,14 @@ fn one(points: u64, product: u64, days: u64, amounts: [u64; 4], side: u64) -> Ve
 fn whole_listing() {
     let wanted = "MTM 25280.00\nNAKED -1804839.00\nCROSS -955501.00\n\
                   CLASS 0 6\nITEM 0 0 -1061670.00\nITEM 1 12 106169.00\n";
-    assert_eq!(second::listing(&example()), wanted);
+    assert_eq!(second::listing(&encode::example()), wanted);
 }
 
 #[test]
 fn other_listings() {
     assert_eq!(second::listing(&[]), "MTM 0.00\nNAKED 0.00\nCROSS 0.00\n");
     assert_eq!(second::listing(b"C"), "REFUSED 1 0\n");
-    assert_eq!(second::listing(&example()[..65]), "REFUSED 1 2\n");
+    assert_eq!(second::listing(&encode::example()[..65]), "REFUSED 1 2\n");
     let long = encode::position(1, 0, 1, 0, 0).repeat(400);
     assert_eq!(second::listing(&long), "REFUSED 6 0\n");
     assert_eq!(second::listing(&long[..long.len() - 1]), "REFUSED 1 399\n");
