@@ -1,5 +1,6 @@
 // The same call for C and Rust. Slices pass as a pointer and a length, the five numbers of the answer through five pointers.
-ghost use Rattle.desk.specs.Call.{Called};
+ghost use Rattle.margin.specs.Run.{Ran};
+ghost use Rattle.desk.specs.Call.{totals as totalsOf};
 
 // The run of a book. There is no buffer that could be too short, and nothing is to be checked first.
 #[no_mangle]
@@ -13,7 +14,7 @@ pub extern "C" fn desk_run(
     naked: &mut i64,
     cross: &mut i64,
 )
-    ensures { λ u. ⌜ Called (now (book .entry)) (now (rows .entry)) (now (choice .entry)) (now (rows .exit)) (now (choice .exit)) (now (code .exit)) (now (place .exit)) (now (mark .exit)) (now (naked .exit)) (now (cross .exit)) ⌝ }
+    ensures { λ u. ⌜ Ran (now (book .entry)) (now (rows .entry)) (now (choice .entry)) (now (code .exit)) (now (place .exit)) (totalsOf (now (mark .exit)) (now (naked .exit)) (now (cross .exit))) (now (rows .exit)) (now (choice .exit)) ⌝ }
 {
     let answer = margin::run(book, rows, choice);
     *code = answer.code();

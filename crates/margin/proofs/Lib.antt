@@ -1,5 +1,7 @@
 -- What is proved of the call beside the functions' own contracts.
+pub mod Answers
 pub mod Shapes
-pub mod Counted
 pub mod Promises
+pub mod Counted
+pub mod Rooms
 pub mod Determined

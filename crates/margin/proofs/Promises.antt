@@ -1,10 +1,10 @@
 -- From a verdict and the figures to the three promises. Assumes nothing.
 use mathlib.Core.Path.{_≡_, refl, sym, ap, ap₂, subst, _∙_}
 use mathlib.Core.List.{List, _++_}
-use Prim.Native.Nat.{ℕ, _+_, _*_, _/_, _%_, _≤_, _<_}
+use Prim.Native.Nat.{ℕ, _+_, _*_, _≤_, _<_}
 use native.Mathlib.Decide.{decLt}
 use native.Mathlib.Omega.{arith}
-use borrow.Author.Tests.{eq-eqb, ne-eqb, lt-ltb, le-ltb}
+use borrow.Author.Tests.{lt-ltb, le-ltb}
 use lib.IntN.{ℤ}
 use lib.ListN.{length, getD, drop, List·getD-append}
 use Rattle.paper.specs.declared.Shape.{Shape}
@@ -12,15 +12,12 @@ use Rattle.paper.specs.declared.Totals.{Totals}
 use Rattle.paper.specs.declared.Fault.{Fault}
 use Rattle.paper.specs.declared.Verdict.{Verdict}
 use Rattle.paper.specs.declared.Verdict.the-variants.{Sound, Refused}
-use Rattle.paper.specs.declared.Fault.the-variants.{Length}
-use Rattle.paper.specs.declared.Answer.{Answer}
-use Rattle.paper.specs.declared.Answer.the-variants as answer
 use Rattle.paper.specs.Sums.{sum, listed}
-use Rattle.paper.specs.Records.{recordBytes, wholeRecords}
+use Rattle.paper.specs.Records.{wholeRecords}
 use Rattle.paper.specs.Refusals.{verdictOf, verdictOn, withRoom}
 use Rattle.paper.specs.Windows.{Near}
 use Rattle.paper.specs.Trees.{Tree, Allowed, totalOf, LowestTotal, rowOf, crossOf, classChoice, itemChoice}
-use Rattle.paper.specs.Answers.{Walk, walkOf, answerFor, answerOf, rowsOn, rowsAfter, choiceOn, choiceAfter, choiceFor, classPoint, itemPoint, LowestOfBook}
+use Rattle.paper.specs.Answers.{Walk, walkOf, codeOf, noTotals, codeGiven, placeGiven, totalsGiven, rowsOn, rowsAfter, choiceOn, choiceAfter, choiceFor, classPoint, itemPoint, LowestOfBook}
 use Rattle.amount.proofs.Sums.{sum-cong}
 use Rattle.amount.proofs.Lists.{listed-length, listed-at}
 use Rattle.tree.proofs.Rows.{Valid}
@@ -28,7 +25,6 @@ use Rattle.tree.proofs.Theorem.{lowest-total}
 use Rattle.tree.proofs.Buffers.{getD-past}
 use Rattle.tree.proofs.Book.{valid}
 use Rattle.margin.specs.Run.{Figured, Ran}
-use Rattle.margin.specs.Counted.{Counted}
 
 -- what acceptance says of a book and of the lengths of the buffers
 pub record Admitted (b : List ℕ) (rows choice : ℕ) (s : Shape) : Type 0 where
@@ -36,7 +32,7 @@ pub record Admitted (b : List ℕ) (rows choice : ℕ) (s : Shape) : Type 0 wher
   pub rows-fit : s .classes * s .points ≤ rows
   pub choice-fits : s .classes + s .instruments ≤ choice
 
-no-refusal : {f : Fault} {place : ℕ} {s : Shape} → Refused f place ≡ Sound s → ⊥
+pub no-refusal : {f : Fault} {place : ℕ} {s : Shape} → Refused f place ≡ Sound s → ⊥
 no-refusal {f} {place} {s} e = let z : _≡_ {A = ℕ} 0 1 = cc in omega arith
 
 pub room : (b : List ℕ) (rows choice : ℕ) (s : Shape) → verdictOn b rows choice ≡ Sound s → Admitted b rows choice s
@@ -79,13 +75,13 @@ module _ (w : Walk) (choice : List ℕ) where
   rest : List ℕ
   rest = listed instruments (itemChoice (w .tree) (w .row)) ++ drop (classes + instruments) choice
 
-  class-read : (k : ℕ) → k < classes → classPoint (choiceFor w choice) k ≡ classChoice (w .tree) (w .row) k
+  pub class-read : (k : ℕ) → k < classes → classPoint (choiceFor w choice) k ≡ classChoice (w .tree) (w .row) k
   unfolding choiceFor rest
   class-read k h =
       let f = classChoice (w .tree) (w .row) in
       List·getD-append (listed classes f) rest 0 k (rw (listed-length classes f) h) ∙ listed-at classes k f 0 h
 
-  item-read : (i : ℕ) → i < instruments → itemPoint (w .tree) (choiceFor w choice) i ≡ itemChoice (w .tree) (w .row) i
+  pub item-read : (i : ℕ) → i < instruments → itemPoint (w .tree) (choiceFor w choice) i ≡ itemChoice (w .tree) (w .row) i
   unfolding choiceFor rest
   item-read i h =
       let f = itemChoice (w .tree) (w .row) in
@@ -93,7 +89,7 @@ module _ (w : Walk) (choice : List ℕ) where
       ∙ List·getD-append (listed instruments f) (drop (classes + instruments) choice) 0 i (rw (listed-length instruments f) h)
       ∙ listed-at instruments i f 0 h
 
-lowest : (b : List ℕ) (s : Shape) (choice : List ℕ) → verdictOf b ≡ Sound s →
+pub lowest : (b : List ℕ) (s : Shape) (choice : List ℕ) → verdictOf b ≡ Sound s →
     let t = walkOf b s .tree in LowestTotal t (crossOf t (rowOf t)) (classPoint (choiceFor (walkOf b s) choice)) (itemPoint t (choiceFor (walkOf b s) choice))
 lowest b s choice sound =
     let w = walkOf b s in
@@ -101,10 +97,12 @@ lowest b s choice sound =
 
 module _ (b : List ℕ) (rows : List ℤ) (choice : List ℕ) where
   pub accepted : (s : Shape) (totals : Totals) (rows′ : List ℤ) (choice′ : List ℕ) → verdictOn b (length rows) (length choice) ≡ Sound s →
-      Figured b s rows choice totals rows′ choice′ → Ran b rows choice (answer.Accepted totals) rows′ choice′
-  unfolding answerOf rowsAfter choiceAfter
+      Figured b s rows choice totals rows′ choice′ → Ran b rows choice 0 0 totals rows′ choice′
+  unfolding rowsAfter choiceAfter
   accepted s totals rows′ choice′ e f = record {
-    answers = ap answer.Accepted (f .totalled) ∙ sym (ap (answerFor b) e);
+    code-is = sym (ap codeGiven e);
+    place-is = sym (ap placeGiven e);
+    totals-are = f .totalled ∙ sym (ap (totalsGiven b) e);
     rows-hold = f .rows-hold ∙ sym (ap (λ (v : Verdict). rowsOn b v rows) e);
     choice-holds = f .choice-holds ∙ sym (ap (λ (v : Verdict). choiceOn b v choice) e);
     lowest = λ t k.
@@ -113,28 +111,13 @@ module _ (b : List ℕ) (rows : List ℤ) (choice : List ℕ) where
         rw (← same, f .choice-holds, f .totalled) (lowest b s choice (room b (length rows) (length choice) s e .sound));
   }
 
-  pub refused : (f : Fault) (place : ℕ) → verdictOn b (length rows) (length choice) ≡ Refused f place → Ran b rows choice (answer.Refused f place) rows choice
-  unfolding answerOf rowsAfter choiceAfter
+  pub refused : (f : Fault) (place : ℕ) → verdictOn b (length rows) (length choice) ≡ Refused f place → Ran b rows choice (codeOf f) place noTotals rows choice
+  unfolding rowsAfter choiceAfter
   refused f place e = record {
-    answers = sym (ap (answerFor b) e);
+    code-is = sym (ap codeGiven e);
+    place-is = sym (ap placeGiven e);
+    totals-are = sym (ap (totalsGiven b) e);
     rows-hold = sym (ap (λ (v : Verdict). rowsOn b v rows) e);
     choice-holds = sym (ap (λ (v : Verdict). choiceOn b v choice) e);
     lowest = λ s k. absurd (no-refusal (sym e ∙ k));
-  }
-
--- of a book whose tail was counted
-module _ (kept : List ℕ) (size : ℕ) (rows : List ℤ) (choice : List ℕ) where
-  pub even : (r : Answer) (rows′ : List ℤ) (choice′ : List ℕ) → size % recordBytes ≡ 0 → Ran kept rows choice r rows′ choice′ → Counted kept size rows choice r rows′ choice′
-  unfolding answerOf rowsAfter choiceAfter
-  even r rows′ choice′ h ran = record {
-    answers = rw (eq-eqb (size % recordBytes) 0 h) (ran .answers);
-    rows-hold = rw (eq-eqb (size % recordBytes) 0 h) (ran .rows-hold);
-    choice-holds = rw (eq-eqb (size % recordBytes) 0 h) (ran .choice-holds);
-  }
-
-  pub torn : (size % recordBytes ≡ 0 → ⊥) → Counted kept size rows choice (answer.Refused Length (size / recordBytes)) rows choice
-  torn h = record {
-    answers = rw (ne-eqb (size % recordBytes) 0 h);
-    rows-hold = rw (ne-eqb (size % recordBytes) 0 h);
-    choice-holds = rw (ne-eqb (size % recordBytes) 0 h);
   }

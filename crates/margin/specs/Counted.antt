@@ -1,30 +1,52 @@
--- The run of a book of which the first records were kept and the rest was counted.
+-- A book of which the first records were kept and the bytes counted: its verdict and its run are those of the whole book.
 use mathlib.Core.Path.{_≡_}
-use mathlib.Core.Bool.{cond}
+use mathlib.Core.Bool.{Bool, _&&_}
 use mathlib.Core.List.{List}
-use Prim.Native.Nat.{ℕ, _*_, _/_, _%_}
+use Prim.Native.Nat.{ℕ, _*_, _/_, _%_, min}
 use lib.Dec.{eqb}
 use lib.IntN.{ℤ}
 use lib.ListN.{length, take}
-use Rattle.paper.specs.declared.Answer.{Answer}
+use Rattle.paper.specs.declared.Totals.{Totals}
 use Rattle.paper.specs.declared.Verdict.{Verdict}
 use Rattle.paper.specs.declared.Verdict.the-variants.{Refused}
 use Rattle.paper.specs.declared.Fault.the-variants.{Length}
 use Rattle.paper.specs.Records.{recordBytes}
-use Rattle.paper.specs.Refusals.{verdictOn}
-use Rattle.paper.specs.Answers.{answerFor, rowsOn, choiceOn}
+use Rattle.paper.specs.Refusals.{verdictOf}
+use Rattle.paper.specs.Answers.{codeOf, noTotals}
 use Rattle.paper.specs.Listing.{keptRecords}
+use Rattle.margin.specs.Run.{Ran}
 
--- what is kept of a book
-abbrev pub keptOf : List ℕ → List ℕ
-keptOf b = take (keptRecords * recordBytes) b
+-- how many bytes are kept of a book at most
+abbrev pub keptBytes : ℕ
+keptBytes = keptRecords * recordBytes
 
--- the verdict, from what was kept and the length of the whole
-abbrev pub countedVerdict : List ℕ → ℕ → ℕ → ℕ → Verdict
-countedVerdict kept size rows choice =
-    cond (eqb (size % recordBytes) 0) (verdictOn kept rows choice) (Refused Length (size / recordBytes))
+-- "keeping the first 345 records and counting the rest": these bytes and this number are of the book b
+pub record KeptOf (b kept : List ℕ) (size : ℕ) : Type 0 where
+  pub first : kept ≡ take keptBytes b
+  pub counted : size ≡ length b
 
-pub record Counted (kept : List ℕ) (size : ℕ) (rows : List ℤ) (choice : List ℕ) (answer : Answer) (rows′ : List ℤ) (choice′ : List ℕ) : Type 0 where
-  pub answers : answer ≡ answerFor kept (countedVerdict kept size (length rows) (length choice))
-  pub rows-hold : rows′ ≡ rowsOn kept (countedVerdict kept size (length rows) (length choice)) rows
-  pub choice-holds : choice′ ≡ choiceOn kept (countedVerdict kept size (length rows) (length choice)) choice
+-- there is no such book
+abbrev pub OfNoBook : List ℕ → ℕ → Type 0
+OfNoBook kept size = (b : List ℕ) → KeptOf b kept size → ⊥
+
+-- whether so many bytes kept, of so many, are those of a book of whole records
+abbrev pub wholeKept : ℕ → ℕ → Bool
+wholeKept kept size = eqb kept (min keptBytes size) && eqb (size % recordBytes) 0
+
+-- the verdict is that of every book that was so kept and counted; what is of no book is refused as a faulty length
+pub record CountedVerdict (kept : List ℕ) (size : ℕ) (v : Verdict) : Type 0 where
+  pub of-book : (b : List ℕ) → KeptOf b kept size → v ≡ verdictOf b
+  pub of-none : OfNoBook kept size → v ≡ Refused Length (size / recordBytes)
+
+-- what is of no book has no figures: code 1, the whole records counted as place, zero totals, neither buffer altered
+pub record Unread (size : ℕ) (rows : List ℤ) (choice : List ℕ) (code place : ℕ) (totals : Totals) (rows′ : List ℤ) (choice′ : List ℕ) : Type 0 where
+  pub code-is : code ≡ codeOf Length
+  pub place-is : place ≡ size / recordBytes
+  pub totals-are : totals ≡ noTotals
+  pub rows-hold : rows′ ≡ rows
+  pub choice-holds : choice′ ≡ choice
+
+-- the run has the three promises of every book that was so kept and counted
+pub record CountedRan (kept : List ℕ) (size : ℕ) (rows : List ℤ) (choice : List ℕ) (code place : ℕ) (totals : Totals) (rows′ : List ℤ) (choice′ : List ℕ) : Type 0 where
+  pub of-book : (b : List ℕ) → KeptOf b kept size → Ran b rows choice code place totals rows′ choice′
+  pub of-none : OfNoBook kept size → Unread size rows choice code place totals rows′ choice′

@@ -6,10 +6,9 @@ use lib.IntN.{ℤ}
 use lib.ListN.{length}
 use Rattle.paper.specs.declared.Shape.{Shape}
 use Rattle.paper.specs.declared.Totals.{Totals}
-use Rattle.paper.specs.declared.Answer.{Answer}
 use Rattle.paper.specs.declared.Verdict.the-variants.{Sound}
 use Rattle.paper.specs.Refusals.{verdictOn}
-use Rattle.paper.specs.Answers.{walkOf, figures, rowsFor, choiceFor, answerOf, answerTotals, rowsAfter, choiceAfter, LowestOfBook}
+use Rattle.paper.specs.Answers.{walkOf, figures, rowsFor, choiceFor, codeGiven, placeGiven, totalsGiven, rowsAfter, choiceAfter, LowestOfBook}
 
 -- the figures of a sound book that has room, and the buffers afterwards
 pub record Figured (b : List ℕ) (s : Shape) (rows : List ℤ) (choice : List ℕ) (totals : Totals) (rows′ : List ℤ) (choice′ : List ℕ) : Type 0 where
@@ -17,11 +16,14 @@ pub record Figured (b : List ℕ) (s : Shape) (rows : List ℤ) (choice : List �
   pub rows-hold : rows′ ≡ rowsFor (walkOf b s) rows
   pub choice-holds : choice′ ≡ choiceFor (walkOf b s) choice
 
-pub record Ran (b : List ℕ) (rows : List ℤ) (choice : List ℕ) (answer : Answer) (rows′ : List ℤ) (choice′ : List ℕ) : Type 0 where
+-- of the answer's numbers: code, place and totals
+pub record Ran (b : List ℕ) (rows : List ℤ) (choice : List ℕ) (code place : ℕ) (totals : Totals) (rows′ : List ℤ) (choice′ : List ℕ) : Type 0 where
   -- the code, the place and the totals, on acceptance and on refusal
-  pub answers : answer ≡ answerOf b (length rows) (length choice)
+  pub code-is : code ≡ codeGiven (verdictOn b (length rows) (length choice))
+  pub place-is : place ≡ placeGiven (verdictOn b (length rows) (length choice))
+  pub totals-are : totals ≡ totalsGiven b (verdictOn b (length rows) (length choice))
   -- both buffers afterwards: the paper's on acceptance, unaltered on refusal
   pub rows-hold : rows′ ≡ rowsAfter b rows choice
   pub choice-holds : choice′ ≡ choiceAfter b rows choice
   -- on acceptance: no allowed choice has a lower total than the cross margin, and the choice handed back is one and has it
-  pub lowest : (s : Shape) → verdictOn b (length rows) (length choice) ≡ Sound s → LowestOfBook b s (answerTotals answer .cross) choice′
+  pub lowest : (s : Shape) → verdictOn b (length rows) (length choice) ≡ Sound s → LowestOfBook b s (totals .cross) choice′

@@ -1,11 +1,11 @@
 // The one call of the desk: a book and two buffers in, the answer and the figures out. Nothing is to be checked first.
 ghost use mathlib.Core.Path.{_≡_};
-ghost use Prim.Native.Nat.{ℕ, _+_, _*_, _<_, _≤_};
+ghost use Prim.Native.Nat.{ℕ, _+_, _*_, _<_, _≤_, min};
 ghost use Rattle.paper.specs.Refusals.{verdictOf, verdictOn, withRoom};
 ghost use lib.ListN.{length};
-ghost use Rattle.paper.specs.Answers.{walkOf, figures as figuresOf, rowsFor, choiceFor};
+ghost use Rattle.paper.specs.Answers.{walkOf, figures as figuresOf, rowsFor, choiceFor, answerCode, answerPlace, answerTotals};
 ghost use Rattle.margin.specs.Run.{Ran, Figured};
-ghost use Rattle.margin.specs.Counted.{Counted};
+ghost use Rattle.margin.specs.Counted.{keptBytes, wholeKept, CountedVerdict, CountedRan};
 ghost use Rattle.paper.specs.declared.Verdict.the-variants.{Sound};
 ghost use Rattle.margin.specs.Items.{itemFor, itemOf};
 use paper::Answer;
@@ -61,7 +61,7 @@ fn figures(book: &[u8], s: Shape, rows: &mut [i64], choice: &mut [u16]) -> Total
 
 // The run of a book.
 pub fn run(book: &[u8], rows: &mut [i64], choice: &mut [u16]) -> Answer
-    ensures { λ r. ⌜ Ran (now (book .entry)) (now (rows .entry)) (now (choice .entry)) r (now (rows .exit)) (now (choice .exit)) ⌝ }
+    ensures { λ r. ⌜ Ran (now (book .entry)) (now (rows .entry)) (now (choice .entry)) (answerCode r) (answerPlace r) (answerTotals r) (now (rows .exit)) (now (choice .exit)) ⌝ }
 {
     let verdict = admitted(book, rows.len(), choice.len());
     match verdict {
@@ -70,11 +70,36 @@ pub fn run(book: &[u8], rows: &mut [i64], choice: &mut [u16]) -> Answer
     }
 }
 
-// The run of a book of which the first records were kept, and the bytes of the whole were counted.
-pub fn run_counted(kept: &[u8], size: usize, rows: &mut [i64], choice: &mut [u16]) -> Answer
-    ensures { λ r. ⌜ Counted (now (kept .entry)) size (now (rows .entry)) (now (choice .entry)) r (now (rows .exit)) (now (choice .exit)) ⌝ }
+// How many bytes are kept of so many.
+fn kept_of(size: usize) -> usize
+    ensures { λ r. ⌜ r ≡ min keptBytes size ⌝ }
 {
-    if size % 32 == 0 {
+    if size < 11040 { size } else { 11040 }
+}
+
+// Whether so many bytes kept, of so many, are those of a book of whole records.
+fn whole(kept: usize, size: usize) -> bool
+    ensures { λ r. ⌜ r ≡ wholeKept kept size ⌝ }
+{
+    (kept == kept_of(size)) & (size % 32 == 0)
+}
+
+// The verdict on a book of which the first 345 records were kept, and the bytes of the whole were counted.
+pub fn scan_counted(kept: &[u8], size: usize) -> Verdict
+    ensures { λ v. ⌜ CountedVerdict (now (kept .entry)) size v ⌝ }
+{
+    if whole(kept.len(), size) {
+        book::scan(kept)
+    } else {
+        Verdict::Refused(Fault::Length, size / 32)
+    }
+}
+
+// The run of such a book. What was cut has no figures.
+pub fn run_counted(kept: &[u8], size: usize, rows: &mut [i64], choice: &mut [u16]) -> Answer
+    ensures { λ r. ⌜ CountedRan (now (kept .entry)) size (now (rows .entry)) (now (choice .entry)) (answerCode r) (answerPlace r) (answerTotals r) (now (rows .exit)) (now (choice .exit)) ⌝ }
+{
+    if whole(kept.len(), size) {
         run(kept, rows, choice)
     } else {
         Answer::Refused(Fault::Length, size / 32)

@@ -42,7 +42,7 @@ codeOf Points = 8
 codeOf Rows = 9
 codeOf Choice = 10
 
--- "The answer is a code, a place, and the totals"; "Acceptance is code 0 and place 0."
+-- "The answer is a code, a place, and the totals": these numbers of each case of an answer
 abbrev pub answerCode : Answer → ℕ
 answerCode (answer.Accepted t) = 0
 answerCode (answer.Refused f place) = codeOf f
@@ -51,7 +51,6 @@ abbrev pub answerPlace : Answer → ℕ
 answerPlace (answer.Accepted t) = 0
 answerPlace (answer.Refused f place) = place
 
--- "Every refusal has zero totals"
 abbrev pub answerTotals : Answer → Totals
 answerTotals (answer.Accepted t) = t
 answerTotals (answer.Refused f place) = noTotals
@@ -75,14 +74,18 @@ figures b s = record {
   cross = let w = walkOf b s in crossOf (w .tree) (w .row);
 }
 
--- the answer, from the verdict
-abbrev pub answerFor : List ℕ → Verdict → Answer
-answerFor b (Sound s) = answer.Accepted (figures b s)
-answerFor b (Refused f place) = answer.Refused f place
+-- what a verdict gives: "Acceptance is code 0 and place 0."; "Every refusal has zero totals"
+abbrev pub codeGiven : Verdict → ℕ
+codeGiven (Sound s) = 0
+codeGiven (Refused f place) = codeOf f
 
--- of a book and the lengths of the buffers lent
-unfoldable pub answerOf : List ℕ → ℕ → ℕ → Answer
-answerOf b rows choice = answerFor b (verdictOn b rows choice)
+abbrev pub placeGiven : Verdict → ℕ
+placeGiven (Sound s) = 0
+placeGiven (Refused f place) = place
+
+abbrev pub totalsGiven : List ℕ → Verdict → Totals
+totalsGiven b (Sound s) = figures b s
+totalsGiven b (Refused f place) = noTotals
 
 -- "Row k occupies entries k times points onward in the rows buffer, one row a class." "Entries past these are untouched."
 unfoldable pub rowsFor : Walk → List ℤ → List ℤ

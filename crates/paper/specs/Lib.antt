@@ -1,7 +1,8 @@
 -- The paper as definitions, in its words. A reader believes these, and no others. Sums holds what the paper takes for
--- granted; Records and Refusals are its "The book" and its table, Rounding and Products "Amount at a point", Windows and
--- Trees "The window", Answers "What comes back", Listing "The evening listing".
+-- granted; Units are its own, Records and Refusals its "The book" and its table, Rounding and Products "Amount at a point",
+-- Windows and Trees "The window", Answers "What comes back", Listing "The evening listing".
 pub mod Sums
+pub mod Units
 pub mod Records
 pub mod Refusals
 pub mod Rounding

@@ -130,3 +130,7 @@ markOf x p =
 -- "added over all positions"
 unfoldable pub markTotal : Terms → Positions → ℤ
 markTotal ts ps = sum (ps .many) (λ k. let p = ps .each k in markOf (ts .instrument (p .instrument)) p)
+
+-- an instrument's mark-to-market amount: that of its own positions
+unfoldable pub markOfItem : Terms → Positions → ℕ → ℤ
+markOfItem ts ps i = sum (ps .many) (λ k. let p = ps .each k in only (eqb (p .instrument) i) (markOf (ts .instrument i) p))

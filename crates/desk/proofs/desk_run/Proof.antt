@@ -1,14 +1,25 @@
-use mathlib.Core.Path.{_≡_, _∙_, ap, subst}
+use mathlib.Core.Path.{_≡_, _∙_, ap}
+use mathlib.Core.List.{List}
+use Prim.Native.Nat.{ℕ}
 use borrow.Author.Needs.{needs}
 use lib.IntN.{ℤ}
-use lib.ListN.{length}
 use Rattle.paper.specs.declared.Totals.{Totals}
-use Rattle.paper.specs.declared.Answer.{Answer}
-use Rattle.paper.specs.Answers.{answerOf, answerCode, answerPlace, answerTotals}
 use Rattle.amount.proofs.Ints.{back}
 use Rattle.margin.specs.Run.{Ran}
 use Rattle.desk.proofs.desk_run.Statement.{statement}
 use Rattle.desk.proofs.desk_run.Tie as tie
+
+-- the promises are of the numbers, however these are told
+told-as : {b : List ℕ} {rows rows′ : List ℤ} {choice choice′ : List ℕ} {code code′ place place′ : ℕ} {totals totals′ : Totals} → code′ ≡ code → place′ ≡ place → totals′ ≡ totals →
+    Ran b rows choice code place totals rows′ choice′ → Ran b rows choice code′ place′ totals′ rows′ choice′
+told-as c p t ran = record {
+  code-is = c ∙ ran .code-is;
+  place-is = p ∙ ran .place-is;
+  totals-are = t ∙ ran .totals-are;
+  rows-hold = ran .rows-hold;
+  choice-holds = ran .choice-holds;
+  lowest = λ s h. rw t (ran .lowest s h);
+}
 
 run-requires : tie.Need-run-requires
 run-requires c κs = search needs
@@ -30,20 +41,18 @@ same-length-2 c = search needs
 
 returns : tie.Need-returns
 returns c =
-    let a = c .before .before .before .before .before .before .before .before .before .before .before .before .before .before .args in
     let r = c .before .before .before .before .before .before .before .before .before .run in
-    let e = r .ensures .answers in
-    let t : c .before .before .before .totals .result ≡ answerTotals (answerOf (a .book .now) (length (a .rows .now)) (length (a .choice .now))) =
-    c .before .before .before .totals .ensures ∙ ap answerTotals e in
+    let t = c .before .before .before .totals .ensures in
     let told = c .before .before .struct-told .given in
-    record {
-      ran = subst (λ (x : Answer). Ran (a .book .now) (a .rows .now) (a .choice .now) x (r .last .1 .0) (r .last .1 .1 .0)) e (r .ensures);
-      code-is = c .before .before .before .before .before .code .ensures ∙ ap answerCode e;
-      place-is = c .before .before .before .before .place .ensures ∙ ap answerPlace e;
-      mark-is = back _ (told .0 .1) ∙ ap (λ (x : Totals). x .mark) t;
-      naked-is = back _ (told .1 .0 .1) ∙ ap (λ (x : Totals). x .naked) t;
-      cross-is = back _ (told .1 .1 .0 .1) ∙ ap (λ (x : Totals). x .cross) t;
-    }
+    told-as
+    (c .before .before .before .before .before .code .ensures)
+    (c .before .before .before .before .place .ensures)
+    (λ i. record {
+      mark = (back _ (told .0 .1) ∙ ap (λ (x : Totals). x .mark) t) i;
+      naked = (back _ (told .1 .0 .1) ∙ ap (λ (x : Totals). x .naked) t) i;
+      cross = (back _ (told .1 .1 .0 .1) ∙ ap (λ (x : Totals). x .cross) t) i;
+    })
+    (r .ensures)
 
 pub desk-run-spec : {M : Type 1} → statement M
 desk-run-spec =

@@ -1,0 +1,128 @@
+-- Codes 9 and 10 are given exactly when the paper says, and an empty book is accepted with zeros. Assumes nothing.
+use mathlib.Core.Path.{_≡_, refl, sym, ap, _∙_}
+use mathlib.Core.Bool.{Bool, true, false}
+use mathlib.Core.List.{List, []}
+use Prim.Native.Nat.{ℕ, _+_, _*_, _≤_, _<_}
+use native.Mathlib.Decide.{decLt}
+use native.Mathlib.Omega.{arith}
+use borrow.Author.Tests.{lt-ltb, le-ltb}
+use lib.IntN.{ℤ}
+use lib.ListN.{length}
+use Rattle.paper.specs.declared.Shape.{Shape}
+use Rattle.paper.specs.declared.Fault.{Fault}
+use Rattle.paper.specs.declared.Fault.the-variants.{Length, Rows, Choice}
+use Rattle.paper.specs.declared.Verdict.{Verdict}
+use Rattle.paper.specs.declared.Verdict.the-variants.{Sound, Refused}
+use Rattle.paper.specs.Sums.{sum, listed}
+use Rattle.paper.specs.Records.{wholeRecords, le16, classAt, shapeOf, count}
+use Rattle.paper.specs.Refusals.{verdictFrom, verdictOf, verdictOn, withRoom}
+use Rattle.paper.specs.Products.{markTotal, nakedTotal}
+use Rattle.paper.specs.Trees.{crossOf}
+use Rattle.paper.specs.Answers.{codeOf, noTotals, figures, codeGiven, placeGiven, totalsGiven, rowsFor, choiceFor, rowsAfter, choiceAfter}
+use Rattle.book.proofs.Verdicts.{refused-out, length-out, record-fault}
+use Rattle.margin.proofs.Promises.{no-refusal}
+
+-- code 9: the book is sound, and the rows buffer is shorter than classes times points
+pub record ShortRows (b : List ℕ) (rows place : ℕ) : Type 0 where
+  pub shape : Shape
+  pub sound : verdictOf b ≡ Sound shape
+  pub short : rows < shape .classes * shape .points
+  pub place-is : place ≡ wholeRecords b
+
+-- code 10: the book is sound and its rows fit, and the choice buffer is shorter than classes plus instruments
+pub record ShortChoice (b : List ℕ) (rows choice place : ℕ) : Type 0 where
+  pub shape : Shape
+  pub sound : verdictOf b ≡ Sound shape
+  pub fits : shape .classes * shape .points ≤ rows
+  pub short : choice < shape .classes + shape .instruments
+  pub place-is : place ≡ wholeRecords b
+
+pub rows-in : (b : List ℕ) (rows choice place : ℕ) → ShortRows b rows place → verdictOn b rows choice ≡ Refused Rows place
+unfolding verdictOn
+rows-in b rows choice place h = rw (h .sound, lt-ltb rows (h .shape .classes * h .shape .points) (h .short), h .place-is)
+
+pub choice-in : (b : List ℕ) (rows choice place : ℕ) → ShortChoice b rows choice place → verdictOn b rows choice ≡ Refused Choice place
+unfolding verdictOn
+choice-in b rows choice place h =
+    let s = h .shape in
+    rw (h .sound, le-ltb rows (s .classes * s .points) (h .fits), lt-ltb choice (s .classes + s .instruments) (h .short), h .place-is)
+
+-- a fault of the book itself is not of the buffers
+own : (b : List ℕ) (f : Fault) (place : ℕ) → verdictOf b ≡ Refused f place → codeOf f ≤ 8
+own b f place e = elim (decLt 8 (codeOf f)) [
+  | yes h ↦ absurd (omega (arith, record-fault b place (refused-out b f place (λ k. by k h) e .faulty) .1))
+  | no h ↦ omega arith
+]
+  where
+    by : f ≡ Length → 8 < codeOf f → ⊥
+    by k h = omega (arith, rw k at h)
+
+module _ (b : List ℕ) (rows choice place : ℕ) where
+  -- both sides at once: what the lengths say of a sound book
+  rows-of : (v : Verdict) → verdictOf b ≡ v → withRoom v (wholeRecords b) rows choice ≡ Refused Rows place → ShortRows b rows place
+  rows-of (Refused f p) e k =
+      let g : f ≡ Rows = cc in
+      absurd (omega (arith, rw g at (own b f p e)))
+  rows-of (Sound s) e k = elim (decLt rows (s .classes * s .points)) [
+    | yes h ↦
+        let q : Refused Rows (wholeRecords b) ≡ Refused Rows place = rw (lt-ltb rows (s .classes * s .points) h) at k in
+        let w : wholeRecords b ≡ place = cc in
+        record { shape = s; sound = e; short = h; place-is = sym w }
+    | no h ↦ elim (decLt choice (s .classes + s .instruments)) [
+      | yes l ↦
+          let q : Refused Choice (wholeRecords b) ≡ Refused Rows place = rw (le-ltb rows (s .classes * s .points) (omega arith), lt-ltb choice (s .classes + s .instruments) l) at k in
+          absurd (let z : _≡_ {A = Fault} Choice Rows = cc in let y : _≡_ {A = ℕ} 10 9 = ap codeOf z in omega arith)
+      | no l ↦ absurd (no-refusal (sym (rw (le-ltb rows (s .classes * s .points) (omega arith), le-ltb choice (s .classes + s .instruments) (omega arith)) at k)))
+    ]
+  ]
+
+  choice-of : (v : Verdict) → verdictOf b ≡ v → withRoom v (wholeRecords b) rows choice ≡ Refused Choice place → ShortChoice b rows choice place
+  choice-of (Refused f p) e k =
+      let g : f ≡ Choice = cc in
+      absurd (omega (arith, rw g at (own b f p e)))
+  choice-of (Sound s) e k = elim (decLt rows (s .classes * s .points)) [
+    | yes h ↦
+        let q : Refused Rows (wholeRecords b) ≡ Refused Choice place = rw (lt-ltb rows (s .classes * s .points) h) at k in
+        absurd (let z : _≡_ {A = Fault} Rows Choice = cc in let y : _≡_ {A = ℕ} 9 10 = ap codeOf z in omega arith)
+    | no h ↦ elim (decLt choice (s .classes + s .instruments)) [
+      | yes l ↦
+          let q : Refused Choice (wholeRecords b) ≡ Refused Choice place = rw (le-ltb rows (s .classes * s .points) (omega arith), lt-ltb choice (s .classes + s .instruments) l) at k in
+          let w : wholeRecords b ≡ place = cc in
+          record { shape = s; sound = e; fits = omega arith; short = l; place-is = sym w }
+      | no l ↦ absurd (no-refusal (sym (rw (le-ltb rows (s .classes * s .points) (omega arith), le-ltb choice (s .classes + s .instruments) (omega arith)) at k)))
+    ]
+  ]
+
+  pub rows-out : verdictOn b rows choice ≡ Refused Rows place → ShortRows b rows place
+  unfolding verdictOn
+  rows-out = rows-of (verdictOf b) refl
+
+  pub choice-out : verdictOn b rows choice ≡ Refused Choice place → ShortChoice b rows choice place
+  unfolding verdictOn
+  choice-out = choice-of (verdictOf b) refl
+
+-- a book of no records: no class, no instrument, no position
+abbrev nothing : Shape
+nothing = record { classes = 0; instruments = 0; positions = 0; points = 0 }
+
+empty-sound : (rows choice : ℕ) → verdictOn [] rows choice ≡ Sound nothing
+unfolding verdictOn verdictOf verdictFrom shapeOf count classAt le16
+empty-sound rows choice = rw (le-ltb rows 0 (omega arith), le-ltb choice 0 (omega arith))
+
+-- "An empty book is accepted with zeros", whatever the buffers, and these are left as they are
+pub record AcceptedWithZeros (rows : List ℤ) (choice : List ℕ) : Type 0 where
+  pub code-is : codeGiven (verdictOn [] (length rows) (length choice)) ≡ 0
+  pub place-is : placeGiven (verdictOn [] (length rows) (length choice)) ≡ 0
+  pub totals-are : totalsGiven [] (verdictOn [] (length rows) (length choice)) ≡ noTotals
+  pub rows-hold : rowsAfter [] rows choice ≡ rows
+  pub choice-holds : choiceAfter [] rows choice ≡ choice
+
+pub empty-book : (rows : List ℤ) (choice : List ℕ) → AcceptedWithZeros rows choice
+unfolding markTotal nakedTotal crossOf sum listed rowsFor choiceFor rowsAfter choiceAfter
+empty-book rows choice = record {
+  code-is = rw (empty-sound (length rows) (length choice));
+  place-is = rw (empty-sound (length rows) (length choice));
+  totals-are = rw (empty-sound (length rows) (length choice));
+  rows-hold = rw (empty-sound (length rows) (length choice));
+  choice-holds = rw (empty-sound (length rows) (length choice));
+}

@@ -1,0 +1,18 @@
+-- "Units": what a rate and a nominal are in the numbers of a record.
+use Prim.Native.Nat.{ℕ, _/_}
+
+-- "rates in hundred-millionths, so 3.70 % is 3,700,000": the full rate, 100 %
+abbrev pub fullRate : ℕ
+fullRate = 100000000
+
+-- "one basis point is 10,000 rate units"
+abbrev pub basisPoint : ℕ
+basisPoint = 10000
+
+-- a hundredth of a basis point, to which product 2 is rounded
+abbrev pub hundredth : ℕ
+hundredth = basisPoint / 100
+
+-- "The nominal is DKK 1,000,000 throughout", in øre
+abbrev pub nominal : ℕ
+nominal = 100000000
