@@ -1,10 +1,10 @@
-// The lines of the evening listing, each put together from its end.
+// The lines of a listing, each put together from its end: a tag of at most eight bytes, and its fields.
 ghost use mathlib.Core.Path.{_≡_};
 ghost use mathlib.Core.List.{List, [], _∷_, _++_};
 ghost use Prim.Native.Nat.{ℕ, _≤_};
 ghost use lib.ListN.{length};
 ghost use Rattle.text.specs.Text.{room, right, shown};
-ghost use Rattle.paper.specs.Listing.{decimal, kroner as kronerOf, line, MTM, NAKED, CROSS, CLASS, ITEM, REFUSED};
+ghost use Rattle.paper.specs.Listing.{decimal, kroner as kronerOf, line};
 use text::Text;
 
 // The end of a line.
@@ -33,57 +33,26 @@ fn amount(t: Text, z: i64) -> Text
     text::with_byte(text::with_bytes(t, &bytes[from..]), 32)
 }
 
-// The line of a total: its tag and the amount.
-fn total(tag: &[u8], z: i64) -> Text
+// A total's line: the tag and the amount.
+pub fn total(tag: &[u8], z: i64) -> Text
     requires { ⌜ length (now tag) ≤ 8 ⌝ }
     ensures { λ r. ⌜ r ≡ right (line (now (tag .entry)) (kronerOf z ∷ [])) ⌝ }
 {
     text::with_bytes(amount(newline(), z), tag)
 }
 
-pub fn mark(z: i64) -> Text
-    ensures { λ r. ⌜ r ≡ right (line MTM (kronerOf z ∷ [])) ⌝ }
-{
-    total(b"MTM", z)
-}
-
-pub fn naked(z: i64) -> Text
-    ensures { λ r. ⌜ r ≡ right (line NAKED (kronerOf z ∷ [])) ⌝ }
-{
-    total(b"NAKED", z)
-}
-
-pub fn cross(z: i64) -> Text
-    ensures { λ r. ⌜ r ≡ right (line CROSS (kronerOf z ∷ [])) ⌝ }
-{
-    total(b"CROSS", z)
-}
-
-// The line of a tag and two numbers.
-fn numbers(tag: &[u8], first: u64, last: u64) -> Text
+// A line of two numbers: a class with its point, a refusal with its place.
+pub fn numbers(tag: &[u8], first: u64, last: u64) -> Text
     requires { ⌜ length (now tag) ≤ 8 ⌝ }
     ensures { λ r. ⌜ r ≡ right (line (now (tag .entry)) (decimal first ∷ decimal last ∷ [])) ⌝ }
 {
     text::with_bytes(number(number(newline(), last), first), tag)
 }
 
-// A class: its number and point.
-pub fn class(k: u64, point: u64) -> Text
-    ensures { λ r. ⌜ r ≡ right (line CLASS (decimal k ∷ decimal point ∷ [])) ⌝ }
+// An instrument's line: its number, point and amount there.
+pub fn item(tag: &[u8], i: u64, point: u64, z: i64) -> Text
+    requires { ⌜ length (now tag) ≤ 8 ⌝ }
+    ensures { λ r. ⌜ r ≡ right (line (now (tag .entry)) (decimal i ∷ decimal point ∷ kronerOf z ∷ [])) ⌝ }
 {
-    numbers(b"CLASS", k, point)
-}
-
-// An instrument: its number, point and amount there.
-pub fn item(i: u64, point: u64, z: i64) -> Text
-    ensures { λ r. ⌜ r ≡ right (line ITEM (decimal i ∷ decimal point ∷ kronerOf z ∷ [])) ⌝ }
-{
-    text::with_bytes(number(number(amount(newline(), z), point), i), b"ITEM")
-}
-
-// A refusal: its code and place.
-pub fn refused(code: u64, place: u64) -> Text
-    ensures { λ r. ⌜ r ≡ right (line REFUSED (decimal code ∷ decimal place ∷ [])) ⌝ }
-{
-    numbers(b"REFUSED", code, place)
+    text::with_bytes(number(number(amount(newline(), z), point), i), tag)
 }

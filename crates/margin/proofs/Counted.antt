@@ -13,19 +13,20 @@ use lib.ListN.{length, take, replicate, length-append, length-replicate, length-
 use lib.Seq.{take-all, take-at}
 use Rattle.paper.specs.declared.Fault.{Fault}
 use Rattle.paper.specs.declared.Fault.the-variants.{Length}
+use Rattle.paper.specs.declared.Shape.{Shape}
 use Rattle.paper.specs.declared.Totals.{Totals}
 use Rattle.paper.specs.declared.Verdict.{Verdict}
 use Rattle.paper.specs.declared.Verdict.the-variants.{Sound, Refused}
 use Rattle.paper.specs.Records.{recordBytes, wholeRecords}
 use Rattle.paper.specs.Refusals.{lengthFault, verdictOf, verdictOn, withRoom}
 use Rattle.paper.specs.Answers.{codeOf, noTotals, codeGiven, placeGiven, totalsGiven, rowsOn, rowsAfter, choiceOn, choiceAfter}
-use Rattle.paper.specs.Listing.{keptRecords}
+use Rattle.paper.specs.Listing.{keptRecords, keptBytes}
 use Rattle.book.proofs.Choices.{both}
 use Rattle.book.proofs.Sound.{never-longer}
-use Rattle.book.proofs.Verdicts.{whole-length, length-in}
+use Rattle.book.proofs.Verdicts.{whole-length, length-in, all-sound}
 use Rattle.book.proofs.Kept.{kept}
 use Rattle.margin.specs.Run.{Ran}
-use Rattle.margin.specs.Counted.{keptBytes, KeptOf, OfNoBook, wholeKept, CountedVerdict, Unread, CountedRan}
+use Rattle.margin.specs.Counted.{KeptOf, OfNoBook, wholeKept, CountedVerdict, Unread, CountedRan}
 use Rattle.margin.proofs.Promises.{no-refusal, refused}
 
 -- what a verdict on the kept book means for the whole one: all of it was kept, or both are refused alike
@@ -136,3 +137,25 @@ ran-torn k size rows choice h = record {
   of-book = λ b of. refused b rows choice Length (size / recordBytes) (rw (torn-verdict b k size of h));
   of-none = λ none. record { code-is = refl; place-is = refl; totals-are = refl; rows-hold = refl; choice-holds = refl };
 }
+
+-- of bytes kept and a number counted there is a book, or there is none
+pub by-book : {B : Type 0} (k : List ℕ) (size : ℕ) → ((b : List ℕ) → KeptOf b k size → B) → (OfNoBook k size → B) → B
+by-book k size of-some none = elim (ℕ-discrete (length k) (min keptBytes size)) [
+  | yes h ↦ of-some (some k size) (a-book k size h)
+  | no h ↦ none (no-book k size h)
+]
+
+-- a counted book that is sound is what was kept of it
+module _ (k : List ℕ) (size : ℕ) (s : Shape) (v : CountedVerdict k size (Sound s)) where
+  sound-book-of : (b : List ℕ) → KeptOf b k size → (verdictOf k ≡ Sound s) × Alike b
+  sound-book-of b of =
+      let e : verdictOf b ≡ Sound s = sym (v .of-book b of) in
+      let a : Alike b = alike b (all-sound b s e .whole) in
+      (ap verdictOf (of .first) ∙ of-kept (λ c w. w) (λ b c g place. refl) b a ∙ e, a)
+
+  pub counted-sound : verdictOf k ≡ Sound s
+  counted-sound = by-book k size (λ b of. sound-book-of b of .0) (λ none. absurd (no-refusal (sym (v .of-none none))))
+
+  pub counted-read : {A : Type 0} (f : List ℕ → Verdict → A) → ((b c : List ℕ) (g : Fault) (place : ℕ) → f b (Refused g place) ≡ f c (Refused g place)) →
+      (b : List ℕ) → KeptOf b k size → f k (verdictOf k) ≡ f b (verdictOf b)
+  counted-read f same b of = rw (of .first) (of-kept f same b (sound-book-of b of .1))

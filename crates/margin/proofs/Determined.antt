@@ -1,14 +1,8 @@
 -- Each public function's contract allows one outcome: one result, and one content of each buffer at exit. Assumes nothing.
-use mathlib.Core.Path.{_≡_}
-use mathlib.Core.List.{List}
-use Prim.Native.Nat.{ℕ, min}
-use native.Mathlib.Decide.{ℕ-discrete}
 use denote.Ref.{now}
-use lib.ListN.{length}
 use Rattle.amount.proofs.Outcomes.{OneOutcome, OneResult, coincide}
-use Rattle.margin.specs.Counted.{keptBytes, KeptOf, OfNoBook}
 use Rattle.margin.proofs.Answers.{same-answer}
-use Rattle.margin.proofs.Counted.{some, a-book, no-book}
+use Rattle.margin.proofs.Counted.{by-book}
 use Rattle.margin.proofs.run.Reads as run-reads
 use Rattle.margin.proofs.scan_counted.Reads as scan-counted-reads
 use Rattle.margin.proofs.run_counted.Reads as run-counted-reads
@@ -23,13 +17,7 @@ run-rows κs a x y e f p q = coincide (p .rows-hold) (q .rows-hold)
 run-choice : OneOutcome (λ κs x e. now (e .1 .1 .0)) run-reads.Post
 run-choice κs a x y e f p q = coincide (p .choice-holds) (q .choice-holds)
 
--- of bytes kept and a number counted there is a book or there is none: the outcome is determined in either case
-by-book : {B : Type 0} (k : List ℕ) (size : ℕ) → ((b : List ℕ) → KeptOf b k size → B) → (OfNoBook k size → B) → B
-by-book k size some-b none = elim (ℕ-discrete (length k) (min keptBytes size)) [
-  | yes h ↦ some-b (some k size) (a-book k size h)
-  | no h ↦ none (no-book k size h)
-]
-
+-- of bytes kept and a number counted the outcome is determined, whether there is such a book or none
 scan-counted : OneResult scan-counted-reads.Post
 scan-counted κs a x y e f p q =
     by-book (now (a .0)) (a .1 .0) (λ b of. coincide (p .of-book b of) (q .of-book b of)) (λ none. coincide (p .of-none none) (q .of-none none))

@@ -3,5 +3,6 @@ pub mod Answers
 pub mod Shapes
 pub mod Promises
 pub mod Counted
+pub mod Fits
 pub mod Rooms
 pub mod Determined

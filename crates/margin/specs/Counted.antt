@@ -2,7 +2,7 @@
 use mathlib.Core.Path.{_≡_}
 use mathlib.Core.Bool.{Bool, _&&_}
 use mathlib.Core.List.{List}
-use Prim.Native.Nat.{ℕ, _*_, _/_, _%_, min}
+use Prim.Native.Nat.{ℕ, _/_, _%_, min}
 use lib.Dec.{eqb}
 use lib.IntN.{ℤ}
 use lib.ListN.{length, take}
@@ -13,12 +13,8 @@ use Rattle.paper.specs.declared.Fault.the-variants.{Length}
 use Rattle.paper.specs.Records.{recordBytes}
 use Rattle.paper.specs.Refusals.{verdictOf}
 use Rattle.paper.specs.Answers.{codeOf, noTotals}
-use Rattle.paper.specs.Listing.{keptRecords}
+use Rattle.paper.specs.Listing.{keptBytes}
 use Rattle.margin.specs.Run.{Ran}
-
--- how many bytes are kept of a book at most
-abbrev pub keptBytes : ℕ
-keptBytes = keptRecords * recordBytes
 
 -- "keeping the first 345 records and counting the rest": these bytes and this number are of the book b
 pub record KeptOf (b kept : List ℕ) (size : ℕ) : Type 0 where

@@ -1,7 +1,7 @@
 -- "The evening listing": its text, a list of bytes.
 use mathlib.Core.Bool.{cond}
 use mathlib.Core.List.{List, [], _∷_, _++_}
-use Prim.Native.Nat.{ℕ, zero, suc, _+_, _/_, _%_}
+use Prim.Native.Nat.{ℕ, zero, suc, _+_, _*_, _/_, _%_}
 use lib.Dec.{ltb}
 use lib.IntN.{ℤ, pos, natAbs}
 use lib.Signed.{nonNeg}
@@ -9,6 +9,7 @@ use Rattle.paper.specs.declared.Shape.{Shape}
 use Rattle.paper.specs.declared.Totals.{Totals}
 use Rattle.paper.specs.declared.Verdict.{Verdict}
 use Rattle.paper.specs.declared.Verdict.the-variants.{Sound, Refused}
+use Rattle.paper.specs.Records.{recordBytes}
 use Rattle.paper.specs.Refusals.{mostClasses, mostInstruments, mostPositions, verdictOf}
 use Rattle.paper.specs.Trees.{classChoice, itemChoice}
 use Rattle.paper.specs.Answers.{codeOf, Walk, walkOf, figures}
@@ -20,6 +21,10 @@ mostRecords = mostClasses + mostInstruments + mostPositions
 -- "keeping the first 345 records and counting the rest"
 abbrev pub keptRecords : ℕ
 keptRecords = mostRecords + 1
+
+-- their bytes
+abbrev pub keptBytes : ℕ
+keptBytes = keptRecords * recordBytes
 
 -- the digit that n ends in
 abbrev pub digit : ℕ → ℕ

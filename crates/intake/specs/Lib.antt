@@ -1,0 +1,2 @@
+-- How far standard input is read.
+pub mod Input
