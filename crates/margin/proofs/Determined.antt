@@ -7,6 +7,7 @@ use Rattle.margin.proofs.run.Reads as run-reads
 use Rattle.margin.proofs.scan_counted.Reads as scan-counted-reads
 use Rattle.margin.proofs.run_counted.Reads as run-counted-reads
 use Rattle.margin.proofs.item_at.Reads as item-at-reads
+use Rattle.margin.proofs.item_mark.Reads as item-mark-reads
 
 run-answer : OneResult run-reads.Post
 run-answer κs a x y e f p q = same-answer x y (coincide (p .code-is) (q .code-is)) (coincide (p .place-is) (q .place-is)) (coincide (p .totals-are) (q .totals-are))
@@ -42,3 +43,6 @@ counted-choice κs a x y e f p q =
 
 item-at : OneResult item-at-reads.Post
 item-at κs a x y e f = coincide
+
+item-mark : OneResult item-mark-reads.Post
+item-mark κs a x y e f = coincide

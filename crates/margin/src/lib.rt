@@ -8,7 +8,7 @@ ghost use Rattle.paper.specs.Listing.{keptBytes};
 ghost use Rattle.margin.specs.Run.{Ran, Figured};
 ghost use Rattle.margin.specs.Counted.{wholeKept, CountedVerdict, CountedRan};
 ghost use Rattle.paper.specs.declared.Verdict.the-variants.{Sound};
-ghost use Rattle.margin.specs.Items.{itemFor, itemOf};
+ghost use Rattle.margin.specs.Items.{itemFor, itemOf, itemMarkFor, itemMarkOf};
 use paper::Answer;
 use paper::Fault;
 use paper::Shape;
@@ -140,6 +140,29 @@ pub fn item_at(book: &[u8], i: usize, point: usize) -> Item
     let verdict = book::scan(book);
     match verdict {
         Verdict::Sound(s) => item_of(book, s, i, point),
+        Verdict::Refused(_, _) => Item::Nothing,
+    }
+}
+
+// The mark-to-market amount of an item of a sound book, where it has such an item.
+fn mark_in(book: &[u8], s: Shape, i: usize) -> Item
+    requires { ⌜ verdictOf (now book) ≡ Sound s ⌝ }
+    ensures { λ r. ⌜ r ≡ itemMarkFor (now (book .entry)) i (Sound s) ⌝ }
+{
+    let instruments = s.instruments;
+    if i < instruments {} else {
+        return Item::Nothing;
+    }
+    Item::Amount(vector::marked(book, s, i))
+}
+
+// The mark-to-market amount of an item of a book, whatever the book.
+pub fn item_mark(book: &[u8], i: usize) -> Item
+    ensures { λ r. ⌜ r ≡ itemMarkOf (now (book .entry)) i ⌝ }
+{
+    let verdict = book::scan(book);
+    match verdict {
+        Verdict::Sound(s) => mark_in(book, s, i),
         Verdict::Refused(_, _) => Item::Nothing,
     }
 }

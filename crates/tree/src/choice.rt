@@ -16,7 +16,8 @@ use crate::row;
 use crate::terms;
 use paper::Shape;
 
-// The point of class k: a root's nearest the middle with the whole scale in reach, a child's from its parent's point.
+// A child's point: the lowest-numbered one with its lowest entry within its parent's reach. A root's is chosen as a child's of
+// the middle point would be, with the whole scale in reach.
 fn class_point(book: &[u8], s: Shape, rows: &[i64], choice: &[u16], k: usize) -> u16
     requires { ⌜ (verdictOf (now book) ≡ Sound s) × (k < s .classes) × (s .classes * s .points ≤ length (now rows)) × (s .classes ≤ length (now choice)) × (walkOf (now book) s .tree .parent k ≢ root → classPoint (now choice) (walkOf (now book) s .tree .parent k) < s .points) ⌝ }
     ensures { λ x. ⌜ x ≡ chooseFrom (walkOf (now (book .entry)) s .tree) (rowsIn (s .points) (now (rows .entry))) (classPoint (now (choice .entry))) k ⌝ }

@@ -10,6 +10,7 @@ use Rattle.vector.proofs.held.Reads as held-reads
 use Rattle.vector.proofs.hold.Reads as hold-reads
 use Rattle.vector.proofs.lowest.Reads as lowest-reads
 use Rattle.vector.proofs.mark.Reads as mark-reads
+use Rattle.vector.proofs.marked.Reads as marked-reads
 use Rattle.vector.proofs.marks.Reads as marks-reads
 use Rattle.vector.proofs.naked.Reads as naked-reads
 use Rattle.vector.proofs.nakeds.Reads as nakeds-reads
@@ -37,6 +38,9 @@ held κs a x y e f = coincide
 
 marks : OneResult marks-reads.Post
 marks κs a x y e f = coincide
+
+marked : OneResult marked-reads.Post
+marked κs a x y e f = coincide
 
 nakeds : OneResult nakeds-reads.Post
 nakeds κs a x y e f = coincide

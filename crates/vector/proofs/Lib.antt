@@ -1,5 +1,5 @@
 -- What is proved of one instrument: the laws of rounding that its amounts go by, its bounds, its closed form; and of a
--- sound book: that what is held and what is totalled fits.
+-- sound book: that what is held and what is totalled fits, and that the marks add up by instrument.
 pub mod Signs
 pub mod Rounding
 pub mod Ranges

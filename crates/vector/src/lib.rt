@@ -1,5 +1,5 @@
 // One instrument: the amount of what is held of it at a point, its vector, its naked margin and its mark-to-market. Over
-// a sound book: what is held of an instrument, and the totals of both.
+// a sound book: what is held of an instrument, its mark-to-market amount, and the totals of marks and naked margins.
 ghost use mathlib.Core.Path.{_≡_};
 ghost use mathlib.Core.Bool.{true, cond};
 ghost use mathlib.Core.List.{_++_};
@@ -10,10 +10,10 @@ ghost use lib.ListN.{length, getD, drop};
 ghost use Rattle.paper.specs.Sums.{listed, lowest as lowestOf};
 ghost use Rattle.paper.specs.declared.Verdict.the-variants.{Sound};
 ghost use Rattle.paper.specs.Refusals.{instrumentFits, positionFits, verdictOf};
-ghost use Rattle.paper.specs.Products.{termsOf, positionsOf, heldOf, shift as shiftOf, rising, falling, fra as fraOf, future as futureOf, bond as bondOf, amountAt, nakedOf, nakedTotal, move, markOne, markOf, markTotal};
+ghost use Rattle.paper.specs.Products.{termsOf, positionsOf, heldOf, shift as shiftOf, rising, falling, fra as fraOf, future as futureOf, bond as bondOf, amountAt, nakedOf, nakedTotal, move, markOne, markOf, markTotal, markOfItem};
 ghost use Rattle.paper.specs.Answers.{addMark, addNaked};
 ghost use Rattle.vector.specs.Holdings.{heldWith};
-ghost use Rattle.vector.specs.Parts.{markAt, nakedAt};
+ghost use Rattle.vector.specs.Parts.{markAt, markFor, nakedAt};
 use paper::Holding;
 use paper::Instrument;
 use paper::Position;
@@ -250,6 +250,31 @@ pub fn marks(book: &[u8], s: Shape, t: Totals) -> Totals
         k += 1;
     }
     totals
+}
+
+// Position k's share of what instrument i is marked to market at: nothing where it names another.
+fn mark_for(book: &[u8], s: Shape, i: usize, k: usize) -> i64
+    requires { ⌜ (verdictOf (now book) ≡ Sound s) × (k < s .positions) ⌝ }
+    ensures { λ r. ⌜ r ≡ markFor (now (book .entry)) s i k ⌝ }
+{
+    let p = book::fields::position_at(book, s.classes + s.instruments + k);
+    let named = p.instrument as usize;
+    if named == i { mark_at(book, s, k) } else { 0 }
+}
+
+// The mark-to-market of instrument i of a sound book: that of its own positions.
+pub fn marked(book: &[u8], s: Shape, i: usize) -> i64
+    requires { ⌜ verdictOf (now book) ≡ Sound s ⌝ }
+    ensures { λ r. ⌜ r ≡ markOfItem (termsOf (now (book .entry)) s) (positionsOf (now (book .entry)) s) i ⌝ }
+{
+    let n = s.positions;
+    let mut total = 0;
+    let mut next = 0;
+    while next < n {
+        total = amount::plus(total, mark_for(book, s, i, next));
+        next += 1;
+    }
+    total
 }
 
 // The naked margin of instrument i of a sound book.
