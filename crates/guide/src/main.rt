@@ -1,4 +1,4 @@
-// The tables of the Danish guide: its two vectors, its result vector and its mortgage bond example. Standard input has the
+// The tables of the Danish guide: its two vectors, its result vector, its instruments' marks and its mortgage bond example. Standard input has the
 // two books: 1000 bought of CFRAU9 and 700 sold of CFRAH9, and 100 of MBFH9 bought today at 101.8.
 use libc::STDIN_FILENO;
 use libc::STDOUT_FILENO;
@@ -68,10 +68,21 @@ fn show_totals(book: &[u8]) {
     show_amount(kroner::write(totals.mark));
 }
 
+// An instrument's mark-to-market amount, where there is such an instrument.
+fn show_mark(book: &[u8], i: usize) {
+    match margin::item_mark(book, i) {
+        Item::Amount(z) => show(b"MARK ", i, kroner::write(z)),
+        Item::Nothing => {}
+    }
+}
+
 fn show_fra(book: &[u8]) {
     show_vector(b"CFRAU9 ", book, 0);
     show_vector(b"CFRAH9 ", book, 1);
     show_result(book);
+    show_mark(book, 0);
+    show_mark(book, 1);
+    show_mark(book, 2);
 }
 
 // Five records, then three.
