@@ -1,9 +1,7 @@
 -- Laws of the scan, and of a book that it finds sound.
-pub mod Choices
 pub mod Counts
 pub mod Verdicts
 pub mod Layouts
-pub mod Bounds
 pub mod Sound
 pub mod Kept
 pub mod Determined

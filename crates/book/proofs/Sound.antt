@@ -13,8 +13,8 @@ use Rattle.paper.specs.declared.Verdict.the-variants.{Sound}
 use Rattle.paper.specs.Records.{wholeRecords, kindAt, classAt, instrumentAt, positionAt, root, count, shapeOf, classOf, instrumentOf, positionOf}
 use Rattle.paper.specs.Refusals.{pointsFit, shareFits, classFits, instrumentFits, positionFits, referenceFault, rangeFault, pointsFault, verdictOf}
 use Rattle.paper.specs.Listing.{mostRecords}
-use Rattle.book.proofs.Choices.{both, either}
-use Rattle.book.proofs.Bounds.{GoodPoints, good-points, ByProduct, by-product, GoodPosition, good-position}
+use Rattle.ranges.proofs.Choices.{both, either}
+use Rattle.ranges.proofs.Bounds.{GoodPoints, good-points, ByProduct, by-product, GoodPosition, good-position}
 use Rattle.book.proofs.Layouts.{layout, before-class, all-classes, before-instrument, all-instruments, before-position}
 use Rattle.book.proofs.Verdicts.{stands, AllClean, Passed, passed, all-sound, whole-length}
 

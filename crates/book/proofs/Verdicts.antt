@@ -38,7 +38,7 @@ pub record Passed (b : List ℕ) (r : ℕ) (s : Shape) : Type 0 where
   pub points : pointsFault b r s ≡ false
 
 -- a test before a clean rest
-past : (given : Bool) (f : Fault) (later : Finding) → cond given (Faulty f) later ≡ Clean → (given ≡ false) × (later ≡ Clean)
+pub past : (given : Bool) (f : Fault) (later : Finding) → cond given (Faulty f) later ≡ Clean → (given ≡ false) × (later ≡ Clean)
 past true f later h = absurd (let z : _≡_ {A = ℕ} 0 1 = cc in omega arith)
 past false f later h = (refl, h)
 

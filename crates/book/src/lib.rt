@@ -9,9 +9,6 @@ use paper::Finding;
 use paper::Shape;
 use paper::Verdict;
 
-mod bytes; // bytes.rt: little-endian numbers at a byte of a record
-pub mod fields; // fields.rt: a record's fields, read out of the bytes
-mod ranges; // ranges.rt: the ranges of the fields, by product
 mod tests; // tests.rt: the questions that each record is asked, in the table's order
 
 // Every class is held to the points of class 0; a book without records has none.
@@ -22,7 +19,7 @@ fn first_points(book: &[u8]) -> usize
     if book.len() == 0 {
         return 0;
     }
-    bytes::le16(book, 0, 4) as usize
+    record::class_at(book, 0).points as usize
 }
 
 // The records before r, and record r with them.
@@ -30,7 +27,7 @@ fn counted(book: &[u8], r: usize, s: Shape) -> Shape
     requires { ⌜ (32 * r + 32 ≤ length (now book)) × (s ≡ shapeOf (now book) r) ⌝ }
     ensures { λ t. ⌜ t ≡ shapeOf (now (book .entry)) (r + 1) ⌝ }
 {
-    let kind = tests::kind_at(book, r);
+    let kind = record::kind_at(book, r);
     let mut next = s;
     match kind {
         1 => next.classes = s.classes + 1,

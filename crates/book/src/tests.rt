@@ -1,21 +1,20 @@
-// The questions that each record is asked, in the order of the refusal table: whether the code is given.
+// The questions that each record is asked, in the order of the refusal table: whether the code is given, or which is found.
 ghost use mathlib.Core.Path.{_≡_};
-ghost use mathlib.Core.Bool.{false};
+ghost use mathlib.Core.Bool.{false, cond};
 ghost use Prim.Native.Nat.{_+_, _*_, _≤_};
-ghost use lib.ListN.{length};
-ghost use Rattle.paper.specs.Records.{kindOf, kindAt};
-ghost use Rattle.paper.specs.Refusals.{kindBefore, letterFault, orderFault, limitFault, zeros as zerosOf, reservedFault, parentRefers, classRefers, instrumentRefers, referenceFault, rangeFault, pointsFault, tests, firstGiven};
-use crate::bytes::byte;
-use crate::fields::class_at;
-use crate::fields::instrument_at;
-use crate::fields::position_at;
-use crate::ranges;
-use paper::Class;
+ghost use lib.ListN.{length, drop};
+ghost use Rattle.paper.specs.declared.Fault.the-variants.{Range};
+ghost use Rattle.paper.specs.declared.Finding.the-variants.{Clean, Faulty};
+ghost use Rattle.paper.specs.Records.{kindAt};
+ghost use Rattle.paper.specs.Refusals.{kindBefore, letterFault, orderFault, limitFault, reservedFault, referenceFault, rangeFault, pointsFault, tests, firstGiven};
 use paper::Fault;
 use paper::Finding;
-use paper::Instrument;
-use paper::Position;
 use paper::Shape;
+use record::class_at;
+use record::instrument_at;
+use record::kind_at;
+use record::position_at;
+use record::reserved_zero;
 
 const MOST_CLASSES: usize = 24;
 
@@ -25,25 +24,6 @@ const MOST_POSITIONS: usize = 256;
 
 // The parent number of a class that has none.
 const ROOT: u16 = 65_535;
-
-// A kind is its rank in the book: classes, instruments, positions. 0 is none.
-fn kind(letter: u8) -> u8
-    ensures { λ k. ⌜ k ≡ kindOf letter ⌝ }
-{
-    match letter {
-        b'C' => 1,
-        b'I' => 2,
-        b'P' => 3,
-        _ => 0,
-    }
-}
-
-pub fn kind_at(book: &[u8], r: usize) -> u8
-    requires { ⌜ 32 * r + 32 ≤ length (now book) ⌝ }
-    ensures { λ k. ⌜ k ≡ kindAt (now (book .entry)) r ⌝ }
-{
-    kind(byte(book, r, 0))
-}
 
 // Before the first record stands none.
 fn kind_before(book: &[u8], r: usize) -> u8
@@ -83,53 +63,11 @@ fn limit_fault(book: &[u8], r: usize, s: Shape) -> bool
     }
 }
 
-// Whether the n bytes of record r from o on are zero.
-fn zeros(book: &[u8], r: usize, o: usize, n: usize) -> bool
-    requires { ⌜ 32 * r + o + n ≤ length (now book) ⌝ }
-    ensures { λ z. ⌜ z ≡ zerosOf (now (book .entry)) r o n ⌝ }
-{
-    let mut at = o;
-    let mut left = n;
-    while 0 < left {
-        if byte(book, r, at) != 0 {
-            return false;
-        }
-        at += 1;
-        left -= 1;
-    }
-    true
-}
-
-// The bytes that a record's kind does not name are reserved.
 fn reserved_fault(book: &[u8], r: usize) -> bool
     requires { ⌜ 32 * r + 32 ≤ length (now book) ⌝ }
     ensures { λ t. ⌜ t ≡ reservedFault (now (book .entry)) r ⌝ }
 {
-    let kind = kind_at(book, r);
-    match kind {
-        1 => !(zeros(book, r, 1, 1) & zeros(book, r, 8, 24)),
-        2 => !(zeros(book, r, 6, 2) & zeros(book, r, 24, 8)),
-        3 => !zeros(book, r, 13, 19),
-        _ => false,
-    }
-}
-
-fn parent_refers(c: Class, s: Shape) -> bool
-    ensures { λ t. ⌜ t ≡ parentRefers c s ⌝ }
-{
-    (c.parent == ROOT) | ((c.parent as usize) < s.classes)
-}
-
-fn class_refers(i: Instrument, s: Shape) -> bool
-    ensures { λ t. ⌜ t ≡ classRefers i s ⌝ }
-{
-    (i.class as usize) < s.classes
-}
-
-fn instrument_refers(p: Position, s: Shape) -> bool
-    ensures { λ t. ⌜ t ≡ instrumentRefers p s ⌝ }
-{
-    (p.instrument as usize) < s.instruments
+    !reserved_zero(book, r)
 }
 
 fn reference_fault(book: &[u8], r: usize, s: Shape) -> bool
@@ -138,28 +76,31 @@ fn reference_fault(book: &[u8], r: usize, s: Shape) -> bool
 {
     let kind = kind_at(book, r);
     match kind {
-        1 => !parent_refers(class_at(book, r), s),
-        2 => !class_refers(instrument_at(book, r), s),
-        3 => !instrument_refers(position_at(book, r), s),
+        1 => {
+            let parent = class_at(book, r).parent;
+            !((parent == ROOT) | ((parent as usize) < s.classes))
+        }
+        2 => !((instrument_at(book, r).class as usize) < s.classes),
+        3 => !((position_at(book, r).instrument as usize) < s.instruments),
         _ => false,
     }
 }
 
 // A position's price has the range of the product of the instrument named, so that must stand before it.
-fn range_fault(book: &[u8], r: usize, s: Shape) -> bool
+fn range_finding(book: &[u8], r: usize, s: Shape) -> Finding
     requires { ⌜ (32 * r + 32 ≤ length (now book)) × (s .classes + s .instruments ≤ r) × (referenceFault (now book) r s ≡ false) ⌝ }
-    ensures { λ t. ⌜ t ≡ rangeFault (now (book .entry)) r s ⌝ }
+    ensures { λ f. ⌜ f ≡ cond (rangeFault (now (book .entry)) r s) (Faulty Range) Clean ⌝ }
 {
     let kind = kind_at(book, r);
     match kind {
-        1 => !ranges::class_fits(class_at(book, r)),
-        2 => !ranges::instrument_fits(instrument_at(book, r)),
+        1 => ranges::class_finding(class_at(book, r)),
+        2 => ranges::instrument_finding(instrument_at(book, r)),
         3 => {
             let p = position_at(book, r);
             let named = s.classes + (p.instrument as usize);
-            !ranges::position_fits(p, instrument_at(book, named).product)
+            ranges::position_finding(p, instrument_at(book, named).product)
         }
-        _ => false,
+        _ => Finding::Clean,
     }
 }
 
@@ -172,6 +113,25 @@ fn points_fault(book: &[u8], r: usize, s: Shape) -> bool
         1 => (class_at(book, r).points as usize) != s.points,
         _ => false,
     }
+}
+
+// The first fault of record r's fields: codes 6 to 8, of which the ranges' own decision gives its code.
+fn fields_finding(book: &[u8], r: usize, s: Shape) -> Finding
+    requires { ⌜ (32 * r + 32 ≤ length (now book)) × (s .classes + s .instruments ≤ r) ⌝ }
+    ensures { λ f. ⌜ f ≡ firstGiven (drop 4 (tests (now (book .entry)) r s)) ⌝ }
+{
+    if reference_fault(book, r, s) {
+        return Finding::Faulty(Fault::Reference);
+    }
+    let ranged = range_finding(book, r, s);
+    match ranged {
+        Finding::Clean => {}
+        Finding::Faulty(f) => return Finding::Faulty(f),
+    }
+    if points_fault(book, r, s) {
+        return Finding::Faulty(Fault::Points);
+    }
+    Finding::Clean
 }
 
 // The first fault of record r, where the records before it are s.
@@ -191,14 +151,5 @@ pub fn finding(book: &[u8], r: usize, s: Shape) -> Finding
     if reserved_fault(book, r) {
         return Finding::Faulty(Fault::Reserved);
     }
-    if reference_fault(book, r, s) {
-        return Finding::Faulty(Fault::Reference);
-    }
-    if range_fault(book, r, s) {
-        return Finding::Faulty(Fault::Range);
-    }
-    if points_fault(book, r, s) {
-        return Finding::Faulty(Fault::Points);
-    }
-    Finding::Clean
+    fields_finding(book, r, s)
 }

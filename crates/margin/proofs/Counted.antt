@@ -21,7 +21,7 @@ use Rattle.paper.specs.Records.{recordBytes, wholeRecords}
 use Rattle.paper.specs.Refusals.{lengthFault, verdictOf, verdictOn, withRoom}
 use Rattle.paper.specs.Answers.{codeOf, noTotals, codeGiven, placeGiven, totalsGiven, rowsOn, rowsAfter, choiceOn, choiceAfter}
 use Rattle.paper.specs.Listing.{keptRecords, keptBytes}
-use Rattle.book.proofs.Choices.{both}
+use Rattle.ranges.proofs.Choices.{both}
 use Rattle.book.proofs.Sound.{never-longer}
 use Rattle.book.proofs.Verdicts.{whole-length, length-in, all-sound}
 use Rattle.book.proofs.Kept.{kept}

@@ -112,7 +112,7 @@ fn amount_of(book: &[u8], s: Shape, i: usize, point: usize) -> i64
     requires { ⌜ (verdictOf (now book) ≡ Sound s) × (i < s .instruments) × (point < s .points) ⌝ }
     ensures { λ z. ⌜ z ≡ walkOf (now (book .entry)) s .tree .amount i point ⌝ }
 {
-    let x = book::fields::instrument_at(book, s.classes + i);
+    let x = record::instrument_at(book, s.classes + i);
     let held = vector::held(book, s, i);
     vector::amount_at(x, s.points, held, point)
 }

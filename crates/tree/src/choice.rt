@@ -22,7 +22,7 @@ fn class_point(book: &[u8], s: Shape, rows: &[i64], choice: &[u16], k: usize) ->
     requires { ⌜ (verdictOf (now book) ≡ Sound s) × (k < s .classes) × (s .classes * s .points ≤ length (now rows)) × (s .classes ≤ length (now choice)) × (walkOf (now book) s .tree .parent k ≢ root → classPoint (now choice) (walkOf (now book) s .tree .parent k) < s .points) ⌝ }
     ensures { λ x. ⌜ x ≡ chooseFrom (walkOf (now (book .entry)) s .tree) (rowsIn (s .points) (now (rows .entry))) (classPoint (now (choice .entry))) k ⌝ }
 {
-    let parent = book::fields::class_at(book, k).parent;
+    let parent = record::class_at(book, k).parent;
     let points = s.points;
     if parent == terms::ROOT {
         row::chosen_in(rows, points, k, points, (points - 1) / 2)
@@ -52,7 +52,7 @@ fn item_point(book: &[u8], s: Shape, choice: &[u16], i: usize) -> u16
     requires { ⌜ (verdictOf (now book) ≡ Sound s) × (i < s .instruments) × (s .classes ≤ length (now choice)) × (classPoint (now choice) (walkOf (now book) s .tree .home i) < s .points) ⌝ }
     ensures { λ x. ⌜ x ≡ chosenNear (s .points) (walkOf (now (book .entry)) s .tree .amount i) (walkOf (now (book .entry)) s .tree .reach (walkOf (now (book .entry)) s .tree .home i)) (classPoint (now (choice .entry)) (walkOf (now (book .entry)) s .tree .home i)) ⌝ }
 {
-    let home = book::fields::instrument_at(book, s.classes + i).class as usize;
+    let home = record::instrument_at(book, s.classes + i).class as usize;
     let reach = terms::reach_of(book, s, home);
     let middle = choice[home] as usize;
     let points = s.points;

@@ -22,7 +22,7 @@ fn add_class(book: &[u8], s: Shape, rows: &mut [i64], k: usize, c: usize)
     requires { ⌜ (verdictOf (now book) ≡ Sound s) × (k < s .classes) × (c < s .classes) × (s .classes * s .points ≤ length (now rows)) × EachFits (s .points) (withClass (walkOf (now book) s .tree) (now rows) k c) ⌝ }
     ensures { λ u. ⌜ now (rows .exit) ≡ withRow (s .points) (now (rows .entry)) k (withClass (walkOf (now (book .entry)) s .tree) (now (rows .entry)) k c) ⌝ }
 {
-    let parent = book::fields::class_at(book, c).parent as usize;
+    let parent = record::class_at(book, c).parent as usize;
     if parent == k {
         let reach = terms::reach_of(book, s, k);
         row::add_row(rows, s.points, k, c, reach);
@@ -46,7 +46,7 @@ fn add_item(book: &[u8], s: Shape, rows: &mut [i64], k: usize, i: usize)
     requires { ⌜ (verdictOf (now book) ≡ Sound s) × (k < s .classes) × (i < s .instruments) × (s .classes * s .points ≤ length (now rows)) × EachFits (s .points) (withItem (walkOf (now book) s .tree) (now rows) k i) ⌝ }
     ensures { λ u. ⌜ now (rows .exit) ≡ withRow (s .points) (now (rows .entry)) k (withItem (walkOf (now (book .entry)) s .tree) (now (rows .entry)) k i) ⌝ }
 {
-    let home = book::fields::instrument_at(book, s.classes + i).class as usize;
+    let home = record::instrument_at(book, s.classes + i).class as usize;
     if home == k {
         slide_item(book, s, rows, k, i);
     }
@@ -105,7 +105,7 @@ fn with_class(book: &[u8], s: Shape, rows: &[i64], k: usize, t: Totals) -> Total
     requires { ⌜ (verdictOf (now book) ≡ Sound s) × (k < s .classes) × (s .classes * s .points ≤ length (now rows)) × SFits w64 (t .cross +ℤ fromRoot (walkOf (now book) s .tree) (rowsIn (s .points) (now rows)) k) ⌝ }
     ensures { λ r. ⌜ r ≡ addCross t (fromRoot (walkOf (now (book .entry)) s .tree) (rowsIn (s .points) (now (rows .entry))) k) ⌝ }
 {
-    let parent = book::fields::class_at(book, k).parent;
+    let parent = record::class_at(book, k).parent;
     if parent == terms::ROOT {
         let low = row::lowest_in(rows, s.points, k);
         t.with_cross(low)

@@ -17,7 +17,7 @@ pub fn reach_of(book: &[u8], s: Shape, k: usize) -> usize
     requires { ⌜ (verdictOf (now book) ≡ Sound s) × (k < s .classes) ⌝ }
     ensures { λ r. ⌜ r ≡ walkOf (now (book .entry)) s .tree .reach k ⌝ }
 {
-    let class = book::fields::class_at(book, k);
+    let class = record::class_at(book, k);
     window::reach(class.share, class.points)
 }
 
@@ -26,7 +26,7 @@ pub fn fill_vector(book: &[u8], s: Shape, i: usize, work: &mut [i64])
     requires { ⌜ (verdictOf (now book) ≡ Sound s) × (i < s .instruments) × (s .points ≤ length (now work)) ⌝ }
     ensures { λ u. ⌜ now (work .exit) ≡ listed (s .points) (walkOf (now (book .entry)) s .tree .amount i) ++ drop (s .points) (now (work .entry)) ⌝ }
 {
-    let x = book::fields::instrument_at(book, s.classes + i);
+    let x = record::instrument_at(book, s.classes + i);
     let held = vector::held(book, s, i);
     vector::fill(work, x, s.points, held);
 }

@@ -21,7 +21,7 @@ use Rattle.paper.specs.Refusals.{positionFits, verdictOf}
 use Rattle.paper.specs.Products.{Terms, Positions, termsOf, positionsOf, netOf, grossOf, heldOf, markOf, markTotal, markOfItem}
 use Rattle.amount.proofs.Ints.{ints, sign, abs}
 use Rattle.amount.proofs.Sums.{sum-cong, sum-swap, sum-one}
-use Rattle.book.proofs.Bounds.{GoodPosition, GoodPoints}
+use Rattle.ranges.proofs.Bounds.{GoodPosition, GoodPoints}
 use Rattle.book.proofs.Sound.{SoundBook, sound-book}
 use Rattle.vector.specs.Parts.{markAt, markFor, nakedAt}
 use Rattle.vector.proofs.Signs.{size-plus, size-fits}

@@ -8,7 +8,7 @@ use Rattle.paper.specs.declared.Instrument.{Instrument}
 use Rattle.paper.specs.declared.Position.{Position}
 use Rattle.paper.specs.Refusals.{within, instrumentFits, positionFits, priceFits}
 use Rattle.amount.proofs.Ints.{ints}
-use Rattle.book.proofs.Bounds.{Between, between, InRanges, ByProduct, by-product, good-position}
+use Rattle.ranges.proofs.Bounds.{Between, between, InRanges, ByProduct, by-product, good-position}
 
 -- z is a number from 0 to n
 pub record UpTo (n : ℕ) (z : ℤ) : Type 0 where

@@ -219,7 +219,7 @@ pub fn held(book: &[u8], s: Shape, i: usize) -> Holding
     let mut held = Holding { net: 0, gross: 0 };
     let mut at = 0;
     while at < n {
-        let p = book::fields::position_at(book, first + at);
+        let p = record::position_at(book, first + at);
         held = hold_of(held, p, i);
         at += 1;
     }
@@ -231,8 +231,8 @@ fn mark_at(book: &[u8], s: Shape, k: usize) -> i64
     requires { ⌜ (verdictOf (now book) ≡ Sound s) × (k < s .positions) ⌝ }
     ensures { λ r. ⌜ r ≡ markAt (now (book .entry)) s k ⌝ }
 {
-    let p = book::fields::position_at(book, s.classes + s.instruments + k);
-    let x = book::fields::instrument_at(book, s.classes + (p.instrument as usize));
+    let p = record::position_at(book, s.classes + s.instruments + k);
+    let x = record::instrument_at(book, s.classes + (p.instrument as usize));
     mark(x, p)
 }
 
@@ -257,7 +257,7 @@ fn mark_for(book: &[u8], s: Shape, i: usize, k: usize) -> i64
     requires { ⌜ (verdictOf (now book) ≡ Sound s) × (k < s .positions) ⌝ }
     ensures { λ r. ⌜ r ≡ markFor (now (book .entry)) s i k ⌝ }
 {
-    let p = book::fields::position_at(book, s.classes + s.instruments + k);
+    let p = record::position_at(book, s.classes + s.instruments + k);
     let named = p.instrument as usize;
     if named == i { mark_at(book, s, k) } else { 0 }
 }
@@ -282,7 +282,7 @@ fn naked_at(book: &[u8], s: Shape, i: usize) -> i64
     requires { ⌜ (verdictOf (now book) ≡ Sound s) × (i < s .instruments) ⌝ }
     ensures { λ r. ⌜ r ≡ nakedAt (now (book .entry)) s i ⌝ }
 {
-    let x = book::fields::instrument_at(book, s.classes + i);
+    let x = record::instrument_at(book, s.classes + i);
     naked(x, s.points, held(book, s, i))
 }
 

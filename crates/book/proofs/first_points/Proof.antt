@@ -18,15 +18,14 @@ returns c =
     let e : c .before .before .args .book .now ≡ [] = empty (c .before .before .args .book .now) (c .if1 .taken) in
     rw e
 
-le16-requires : tie.Need-le16-requires
-le16-requires c κs = search needs
+class-at-requires : tie.Need-class-at-requires
+class-at-requires c κs = search needs
 
 cast-result : tie.Need-cast-result
 cast-result c = search needs
 
 returns-2 : tie.Need-returns-2
-unfolding classAt
-returns-2 c = c .le16 .ensures
+returns-2 c = rw (c .before .class-at .ensures)
 
 pub first-points-spec : {M : Type 1} → statement M
-first-points-spec = tie.close (tie.spec returns le16-requires cast-result returns-2)
+first-points-spec = tie.close (tie.spec returns class-at-requires cast-result returns-2)

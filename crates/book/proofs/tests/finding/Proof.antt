@@ -27,18 +27,6 @@ past-reserved : (c : tie.Else4) → later 0 (c .before .before .before .before .
 unfolding tests firstGiven
 past-reserved c = past-limit (c .before .before) ∙ rw (sym (c .before .reserved-fault .ensures) ∙ c .if4 .left)
 
-past-reference : (c : tie.Else5) → later 0 (c .before .before .before .before .before .before .before .before .before .before .before) ≡ later 5 (c .before .before .before .before .before .before .before .before .before .before .before)
-unfolding tests firstGiven
-past-reference c = past-reserved (c .before .before) ∙ rw (sym (c .before .reference-fault .ensures) ∙ c .if5 .left)
-
-past-range : (c : tie.Else6) → later 0 (c .before .before .before .before .before .before .before .before .before .before .before .before .before) ≡ later 6 (c .before .before .before .before .before .before .before .before .before .before .before .before .before)
-unfolding tests firstGiven
-past-range c = past-reference (c .before .before) ∙ rw (sym (c .before .range-fault .ensures) ∙ c .if6 .left)
-
-past-points : (c : tie.Else7) → later 0 (c .before .before .before .before .before .before .before .before .before .before .before .before .before .before .before) ≡ later 7 (c .before .before .before .before .before .before .before .before .before .before .before .before .before .before .before)
-unfolding tests firstGiven
-past-points c = past-range (c .before .before) ∙ rw (sym (c .before .points-fault .ensures) ∙ c .if7 .left)
-
 letter-fault-requires : tie.Need-letter-fault-requires
 letter-fault-requires c κs = search needs
 
@@ -67,30 +55,11 @@ returns-4 : tie.Need-returns-4
 unfolding tests firstGiven
 returns-4 c = sym (past-limit (c .before .before) ∙ rw (sym (c .before .reserved-fault .ensures) ∙ c .if4 .taken))
 
-reference-fault-requires : tie.Need-reference-fault-requires
-reference-fault-requires c κs = search needs
+fields-finding-requires : tie.Need-fields-finding-requires
+fields-finding-requires c κs = search needs
 
 returns-5 : tie.Need-returns-5
-unfolding tests firstGiven
-returns-5 c = sym (past-reserved (c .before .before) ∙ rw (sym (c .before .reference-fault .ensures) ∙ c .if5 .taken))
-
-range-fault-requires : tie.Need-range-fault-requires
-range-fault-requires c κs = (search needs, search needs, sym (c .before .reference-fault .ensures) ∙ c .if5 .left)
-
-returns-6 : tie.Need-returns-6
-unfolding tests firstGiven
-returns-6 c = sym (past-reference (c .before .before) ∙ rw (sym (c .before .range-fault .ensures) ∙ c .if6 .taken))
-
-points-fault-requires : tie.Need-points-fault-requires
-points-fault-requires c κs = search needs
-
-returns-7 : tie.Need-returns-7
-unfolding tests firstGiven
-returns-7 c = sym (past-range (c .before .before) ∙ rw (sym (c .before .points-fault .ensures) ∙ c .if7 .taken))
-
-returns-8 : tie.Need-returns-8
-unfolding tests firstGiven
-returns-8 c = sym (past-points c)
+returns-5 c = c .fields-finding .ensures ∙ sym (past-reserved (c .before))
 
 pub finding-spec : {M : Type 1} → statement M
 finding-spec =
@@ -104,10 +73,5 @@ finding-spec =
     returns-3
     reserved-fault-requires
     returns-4
-    reference-fault-requires
-    returns-5
-    range-fault-requires
-    returns-6
-    points-fault-requires
-    returns-7
-    returns-8)
+    fields-finding-requires
+    returns-5)

@@ -6,7 +6,7 @@ kind-at-requires : tie.Need-kind-at-requires
 kind-at-requires c κs = search needs
 
 returns : tie.Need-returns
-returns c = cc
+returns c = rw (c .kind-at .ensures)
 
 pub letter-fault-spec : {M : Type 1} → statement M
 letter-fault-spec = tie.close (tie.spec kind-at-requires returns)

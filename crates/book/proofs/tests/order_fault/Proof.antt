@@ -9,7 +9,7 @@ kind-before-requires : tie.Need-kind-before-requires
 kind-before-requires c κs = search needs
 
 returns : tie.Need-returns
-returns c = cc
+returns c = rw (c .before .kind-at .ensures, c .kind-before .ensures)
 
 pub order-fault-spec : {M : Type 1} → statement M
 order-fault-spec = tie.close (tie.spec kind-at-requires kind-before-requires returns)

@@ -3,7 +3,7 @@ use borrow.Author.Tests.{ne-eqb}
 use borrow.Author.Needs.{needs}
 use Rattle.paper.specs.Records.{kindAt}
 use Rattle.paper.specs.Refusals.{pointsFault}
-use Rattle.book.proofs.Choices.{same-cond}
+use Rattle.ranges.proofs.Choices.{same-cond}
 use Rattle.book.proofs.tests.points_fault.Statement.{statement}
 use Rattle.book.proofs.tests.points_fault.Tie as tie
 
@@ -22,7 +22,7 @@ cast-result c = search needs
 
 returns : tie.Need-returns
 unfolding pointsFault
-returns c = rw (kind (c .before .before .before .before) ∙ c .before .before .before .match .keys1) (cc)
+returns c = rw (kind (c .before .before .before .before) ∙ c .before .before .before .match .keys1, ← c .before .before .class-at .ensures)
 
 returns-2 : tie.Need-returns-2
 unfolding pointsFault

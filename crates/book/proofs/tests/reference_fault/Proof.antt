@@ -16,32 +16,32 @@ kind-at-requires c κs = search needs
 class-at-requires : tie.Need-class-at-requires
 class-at-requires c κs = search needs
 
-parent-refers-requires : tie.Need-parent-refers-requires
-parent-refers-requires c κs = search needs
+cast-result : tie.Need-cast-result
+cast-result c = search needs
 
 instrument-at-requires : tie.Need-instrument-at-requires
 instrument-at-requires c κs = search needs
 
-class-refers-requires : tie.Need-class-refers-requires
-class-refers-requires c κs = search needs
+cast-result-2 : tie.Need-cast-result-2
+cast-result-2 c = search needs
 
 position-at-requires : tie.Need-position-at-requires
 position-at-requires c κs = search needs
 
-instrument-refers-requires : tie.Need-instrument-refers-requires
-instrument-refers-requires c κs = search needs
+cast-result-3 : tie.Need-cast-result-3
+cast-result-3 c = search needs
 
 returns : tie.Need-returns
 unfolding referenceFault
-returns c = rw (kind (c .before .before .before) ∙ c .before .before .match .keys1) (cc)
+returns c = rw (kind (c .before .before .before) ∙ c .before .before .match .keys1, ← c .before .class-at .ensures)
 
 returns-2 : tie.Need-returns-2
 unfolding referenceFault
-returns-2 c = rw (kind (c .before .before .before) ∙ c .before .before .match .keys2) (cc)
+returns-2 c = rw (kind (c .before .before .before .before) ∙ c .before .before .before .match .keys2, ← c .before .before .instrument-at .ensures)
 
 returns-3 : tie.Need-returns-3
 unfolding referenceFault
-returns-3 c = rw (kind (c .before .before .before) ∙ c .before .before .match .keys3) (cc)
+returns-3 c = rw (kind (c .before .before .before .before) ∙ c .before .before .before .match .keys3, ← c .before .before .position-at .ensures)
 
 returns-4 : tie.Need-returns-4
 unfolding referenceFault
@@ -53,11 +53,11 @@ reference-fault-spec =
     (tie.spec
     kind-at-requires
     class-at-requires
-    parent-refers-requires
+    cast-result
     instrument-at-requires
-    class-refers-requires
+    cast-result-2
     position-at-requires
-    instrument-refers-requires
+    cast-result-3
     returns
     returns-2
     returns-3

@@ -4,7 +4,7 @@ use native.Mathlib.Omega.{arith}
 use borrow.Author.Tests.{eq-eqb, ne-eqb}
 use lib.ListN.{getD}
 use Rattle.paper.specs.Answers.{walkOf}
-use Rattle.book.proofs.Bounds.{GoodPoints}
+use Rattle.ranges.proofs.Bounds.{GoodPoints}
 use Rattle.book.proofs.Sound.{sound-book}
 use Rattle.tree.specs.Buffers.{RowWithin}
 use Rattle.tree.proofs.Book.{valid}

@@ -1,0 +1,2 @@
+-- What is proved of a record's readers beside the functions' own contracts.
+pub mod Determined
