@@ -2,7 +2,7 @@
 ghost use Rattle.margin.specs.Run.{Ran};
 ghost use Rattle.desk.specs.Call.{totals as totalsOf};
 
-// The run of a book. There is no buffer that could be too short, and nothing is to be checked first.
+// The run of a book. Nothing is to be checked first: a buffer that is too short is refused like a faulty book.
 #[no_mangle]
 pub extern "C" fn desk_run(
     book: &[u8],

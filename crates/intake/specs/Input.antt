@@ -5,13 +5,14 @@ use Prim.Native.Nat.{ℕ, _+_, _≤_, min}
 use lib.Dec.{eqb}
 use lib.IntN.{ℤ}
 use lib.Signed.{nonNeg}
+use Rattle.io.specs.Counts.{clamped}
 use Rattle.intake.specs.declared.Came.{Came}
 use Rattle.intake.specs.declared.Came.the-variants.{Bytes, End, Failed}
 use Rattle.intake.specs.declared.Input.{Input}
 
--- what a read's answer means, of which so many are bytes: below zero it failed, and no byte is the end
+-- what a read's answer means, where there was room for so many bytes: below zero it failed, and no byte is the end
 abbrev pub cameOf : ℤ → ℕ → Came
-cameOf got bytes = cond (nonNeg got) (cond (eqb bytes 0) End (Bytes bytes)) Failed
+cameOf got room = let bytes = clamped got room in cond (nonNeg got) (cond (eqb bytes 0) End (Bytes bytes)) Failed
 
 -- a read brings no more than there is room for
 abbrev pub Within : ℕ → Came → Type 0
@@ -20,8 +21,8 @@ Within room End = Unit {0}
 Within room Failed = Unit {0}
 
 -- nothing is read yet
-abbrev pub unread : Input
-unread = record { kept = 0; whole = 0; going = true; failed = false }
+abbrev pub nothingRead : Input
+nothingRead = record { kept = 0; whole = 0; going = true; failed = false }
 
 -- after one read more: the count grows by what came, of which the first are kept; the end is no failure, and a failure no end
 abbrev pub after : ℕ → Input → Came → Input
@@ -39,7 +40,7 @@ pub record Next (room : ℕ) (i r : Input) : Type 0 where
 abbrev pub closed : Input → Input
 closed i = record { kept = i .kept; whole = i .whole; going = false; failed = i .failed || i .going }
 
--- read to the end or to a failure: of all that came, the first bytes are kept, as many as there is room for
+-- the reading is over, and of all that came as many bytes are kept as there is room for
 pub record ReadTo (room : ℕ) (r : Input) : Type 0 where
   pub kept-is : r .kept ≡ min room (r .whole)
   pub over : r .going ≡ false

@@ -1,10 +1,10 @@
 // Standard input, to its end: the first bytes are kept, the others are counted.
 ghost use mathlib.Core.Path.{_≡_};
 ghost use Prim.Native.Nat.{ℕ, _+_, _*_, _≤_, _<_, min};
-ghost use lib.ListN.{length};
+ghost use lib.ListN.{length, take};
 ghost use Rattle.paper.specs.Listing.{keptBytes};
 ghost use Rattle.intake.specs.declared.Came.the-variants.{Bytes};
-ghost use Rattle.intake.specs.Input.{cameOf, Within, unread, after as afterOf, Next, closed as closedOf, ReadTo};
+ghost use Rattle.intake.specs.Input.{cameOf, Within, nothingRead, after as afterOf, Next, closed as closedOf, ReadTo};
 use libc::STDIN_FILENO;
 
 // What one read brought.
@@ -24,7 +24,7 @@ pub struct Input {
 
 impl Input {
     pub fn none() -> Input
-        ensures { λ r. ⌜ r ≡ unread ⌝ }
+        ensures { λ r. ⌜ r ≡ nothingRead ⌝ }
     {
         Input {
             kept: 0,
@@ -89,31 +89,33 @@ fn least(a: usize, b: usize) -> usize
     if a < b { a } else { b }
 }
 
-// What a read's answer means, of which so many are bytes.
-fn meaning(got: isize, bytes: usize) -> Came
-    ensures { λ c. ⌜ (c ≡ cameOf got bytes) × Within bytes c ⌝ }
+// What a read's answer means, of a read into that buffer.
+fn meaning(got: isize, buffer: &[u8]) -> Came
+    ensures { λ c. ⌜ (c ≡ cameOf got (length (now (buffer .entry)))) × Within (length (now (buffer .entry))) c ⌝ }
 {
     if got < 0 {
         return Came::Failed;
     }
+    let bytes = io::count(got, buffer);
     if bytes == 0 {
         return Came::End;
     }
     Came::Bytes(bytes)
 }
 
-// One read.
+// One read. Into a buffer without room nothing comes, which would not be the end.
 fn come(buffer: &mut [u8]) -> Came
+    requires { ⌜ 0 < length (now buffer) ⌝ }
     ensures { λ c. ⌜ Within (length (now (buffer .entry))) c ⌝ }
 {
     let got = libc::read(STDIN_FILENO, buffer);
-    meaning(got, io::count(got, buffer))
+    meaning(got, buffer)
 }
 
-// One read into the room that is left or, where there is none, past it.
+// One read into the room that is left or, where there is none, past it. What was kept before stays as it is.
 fn next(kept: &mut [u8], input: Input) -> Input
     requires { ⌜ (length (now kept) ≡ keptBytes) × (input .kept ≡ min keptBytes (input .whole)) × (input .whole ≤ 4000000000000000000) ⌝ }
-    ensures { λ r. ⌜ Next keptBytes input r ⌝ }
+    ensures { λ r. ⌜ Next keptBytes input r × (take (input .kept) (now (kept .exit)) ≡ take (input .kept) (now (kept .entry))) ⌝ }
 {
     let at = input.kept;
     let room = kept.len();
@@ -126,7 +128,7 @@ fn next(kept: &mut [u8], input: Input) -> Input
     input.after(room, more)
 }
 
-// Reads standard input to its end, keeping what the buffer holds and counting the rest.
+// Reads standard input to its end or to a failure, keeping what the buffer holds and counting the rest.
 pub fn read(kept: &mut [u8]) -> Input
     requires { ⌜ length (now kept) ≡ keptBytes ⌝ }
     ensures { λ r. ⌜ ReadTo keptBytes r ⌝ }

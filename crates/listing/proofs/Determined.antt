@@ -2,6 +2,7 @@
 use mathlib.Core.Path.{_≡_}
 use Prim.Native.Nat.{ℕ}
 use denote.Ref.{now}
+use lib.ListN.{take}
 use Rattle.amount.proofs.Outcomes.{OneOutcome, OneResult, coincide}
 use Rattle.margin.proofs.Counted.{by-book}
 use Rattle.listing.specs.declared.page.Page.the-variants.{Written}
@@ -25,12 +26,12 @@ same-bytes e = cc
 
 whole : OneResult whole-listing-reads.Post
 whole κs a x y e f p q =
-    same-bytes (by-book (now (a .0)) (a .1 .0 .whole)
+    same-bytes (by-book (take (a .1 .0 .kept) (now (a .0))) (a .1 .0 .whole)
     (λ b of. coincide (p .of-book b of .answers) (q .of-book b of .answers))
     (λ none. coincide (p .of-none none .answers) (q .of-none none .answers)))
 
 whole-out : OneOutcome (λ κs x e. now (e .1 .1 .0)) whole-listing-reads.Post
 whole-out κs a x y e f p q =
-    by-book (now (a .0)) (a .1 .0 .whole)
+    by-book (take (a .1 .0 .kept) (now (a .0))) (a .1 .0 .whole)
     (λ b of. coincide (p .of-book b of .holds) (q .of-book b of .holds))
     (λ none. coincide (p .of-none none .holds) (q .of-none none .holds))

@@ -1,8 +1,8 @@
 -- A listing written into a buffer, and its lines as the choice buffer has them.
 use mathlib.Core.Path.{_≡_}
-use mathlib.Core.Bool.{cond}
+use mathlib.Core.Bool.{false, cond}
 use mathlib.Core.List.{List, [], _∷_, _++_}
-use Prim.Native.Nat.{ℕ, _+_, _*_, _/_, _≤_}
+use Prim.Native.Nat.{ℕ, _+_, _*_, _/_, _≤_, min}
 use lib.Dec.{ltb}
 use lib.ListN.{length, take, drop}
 use Rattle.paper.specs.declared.Shape.{Shape}
@@ -11,11 +11,12 @@ use Rattle.paper.specs.declared.Fault.the-variants.{Length}
 use Rattle.paper.specs.Records.{recordBytes}
 use Rattle.paper.specs.Refusals.{mostClasses, mostInstruments}
 use Rattle.paper.specs.Answers.{codeOf, classPoint}
-use Rattle.paper.specs.Listing.{decimal, kroner, line, lines, CLASS, ITEM, REFUSED, totalLines, listingOf}
+use Rattle.paper.specs.Listing.{decimal, kroner, line, lines, CLASS, ITEM, REFUSED, keptBytes, totalLines, listingOf}
+use Rattle.intake.specs.declared.Input.{Input}
 use Rattle.margin.specs.declared.Item.{Item}
 use Rattle.margin.specs.declared.Item.the-variants.{Amount, Nothing}
 use Rattle.margin.specs.Items.{itemOf}
-use Rattle.margin.specs.Counted.{KeptOf, OfNoBook}
+use Rattle.margin.specs.Counted.{Counted}
 use Rattle.listing.specs.declared.page.Page.{Page}
 use Rattle.listing.specs.declared.page.Page.the-variants.{Written, Short}
 
@@ -57,6 +58,12 @@ pub record Printed (s out : List ℕ) (page : Page) (out′ : List ℕ) : Type 0
   pub holds : out′ ≡ cond (ltb (length out) most) out (s ++ drop (length s) out)
 
 -- of every book that was so kept and counted it is the book's listing; what is of no book is refused as a faulty length
-pub record Listed (kept : List ℕ) (size : ℕ) (out : List ℕ) (page : Page) (out′ : List ℕ) : Type 0 where
-  pub of-book : (b : List ℕ) → KeptOf b kept size → Printed (listingOf b) out page out′
-  pub of-none : OfNoBook kept size → Printed (refusedLine (codeOf Length) (size / recordBytes)) out page out′
+abbrev pub Listed : List ℕ → ℕ → List ℕ → Page → List ℕ → Type 0
+Listed kept size out page out′ =
+    Counted kept size (λ b. Printed (listingOf b) out page out′) (Printed (refusedLine (codeOf Length) (size / recordBytes)) out page out′)
+
+-- the reading is over without a failure, and of the buffer as much is kept as it has room for
+pub record ReadWhole (buffer : List ℕ) (read : Input) : Type 0 where
+  pub room : length buffer ≡ keptBytes
+  pub first : read .kept ≡ min keptBytes (read .whole)
+  pub ended : read .failed ≡ false

@@ -1,16 +1,16 @@
 // The whole evening listing of a book, in a buffer that the caller lends.
 ghost use mathlib.Core.Path.{_≡_};
 ghost use mathlib.Core.List.{[], _∷_};
-ghost use Prim.Native.Nat.{ℕ, _+_, _-_, _≤_, min};
-ghost use lib.ListN.{length};
+ghost use Prim.Native.Nat.{ℕ, _+_, _-_, _≤_};
+ghost use lib.ListN.{length, take};
 ghost use Rattle.paper.specs.declared.Verdict.the-variants.{Sound};
 ghost use Rattle.paper.specs.Refusals.{verdictOf};
 ghost use Rattle.paper.specs.Answers.{codeOf};
-ghost use Rattle.paper.specs.Listing.{decimal, kroner as kronerOf, line, lines as linesOf, MTM, NAKED, CROSS, CLASS, ITEM, keptBytes, totalLines, listingFor};
+ghost use Rattle.paper.specs.Listing.{decimal, kroner as kronerOf, line, lines as linesOf, MTM, NAKED, CROSS, CLASS, ITEM, totalLines, listingFor};
 ghost use Rattle.text.specs.Text.{room, right, shown};
 ghost use Rattle.margin.specs.Items.{itemOf};
 ghost use Rattle.listing.specs.declared.page.Page.the-variants.{Written};
-ghost use Rattle.listing.specs.Page.{Added, classIn, itemText, itemIn, figureLines, refusedLine, most, Listed};
+ghost use Rattle.listing.specs.Page.{Added, classIn, itemText, itemIn, figureLines, refusedLine, most, Listed, ReadWhole};
 use intake::Input;
 use margin::Item;
 use paper::Fault;
@@ -176,14 +176,15 @@ pub fn listing(kept: &[u8], size: usize, out: &mut [u8]) -> Page
     }
 }
 
-// The listing of what was read, in a buffer that every listing fits: how many bytes it has.
-pub fn whole_listing(kept: &[u8], read: Input, out: &mut [u8; 2570]) -> usize
-    requires { ⌜ length (now kept) ≡ min keptBytes (read .whole) ⌝ }
-    ensures { λ r. ⌜ Listed (now (kept .entry)) (read .whole) (now (out .entry)) (Written r) (now (out .exit)) ⌝ }
+// The listing of what was read to its end, in a buffer that every listing fits: how many bytes it has.
+pub fn whole_listing(buffer: &[u8], read: Input, out: &mut [u8; 2570]) -> usize
+    requires { ⌜ ReadWhole (now buffer) read ⌝ }
+    ensures { λ r. ⌜ Listed (take (read .kept) (now (buffer .entry))) (read .whole) (now (out .entry)) (Written r) (now (out .exit)) ⌝ }
 {
-    let page = listing(kept, read.whole, out);
+    let n = read.kept;
+    let page = listing(&buffer[..n], read.whole, out);
     match page {
-        Page::Written(n) => n,
+        Page::Written(bytes) => bytes,
         Page::Short => 0,
     }
 }

@@ -26,7 +26,7 @@ use Rattle.book.proofs.Sound.{never-longer}
 use Rattle.book.proofs.Verdicts.{whole-length, length-in, all-sound}
 use Rattle.book.proofs.Kept.{kept}
 use Rattle.margin.specs.Run.{Ran}
-use Rattle.margin.specs.Counted.{KeptOf, OfNoBook, wholeKept, CountedVerdict, Unread, CountedRan}
+use Rattle.margin.specs.Counted.{KeptOf, OfNoBook, wholeKept, CountedVerdict, CountedRan}
 use Rattle.margin.proofs.Promises.{no-refusal, refused}
 
 -- what a verdict on the kept book means for the whole one: all of it was kept, or both are refused alike

@@ -29,20 +29,26 @@ OfNoBook kept size = (b : List ℕ) → KeptOf b kept size → ⊥
 abbrev pub wholeKept : ℕ → ℕ → Bool
 wholeKept kept size = eqb kept (min keptBytes size) && eqb (size % recordBytes) 0
 
--- the verdict is that of every book that was so kept and counted; what is of no book is refused as a faulty length
-pub record CountedVerdict (kept : List ℕ) (size : ℕ) (v : Verdict) : Type 0 where
-  pub of-book : (b : List ℕ) → KeptOf b kept size → v ≡ verdictOf b
-  pub of-none : OfNoBook kept size → v ≡ Refused Length (size / recordBytes)
+-- what holds of every book that was so kept and counted, and what holds where there is none
+pub record Counted (kept : List ℕ) (size : ℕ) (P : List ℕ → Type 0) (none : Type 0) : Type 0 where
+  pub of-book : (b : List ℕ) → KeptOf b kept size → P b
+  pub of-none : OfNoBook kept size → none
+
+-- the verdict is the book's; what is of no book is refused as a faulty length
+abbrev pub CountedVerdict : List ℕ → ℕ → Verdict → Type 0
+CountedVerdict kept size v = Counted kept size (λ b. v ≡ verdictOf b) (v ≡ Refused Length (size / recordBytes))
 
 -- what is of no book has no figures: code 1, the whole records counted as place, zero totals, neither buffer altered
-pub record Unread (size : ℕ) (rows : List ℤ) (choice : List ℕ) (code place : ℕ) (totals : Totals) (rows′ : List ℤ) (choice′ : List ℕ) : Type 0 where
+pub record NoFigures (size : ℕ) (rows : List ℤ) (choice : List ℕ) (code place : ℕ) (totals : Totals) (rows′ : List ℤ) (choice′ : List ℕ) : Type 0 where
   pub code-is : code ≡ codeOf Length
   pub place-is : place ≡ size / recordBytes
   pub totals-are : totals ≡ noTotals
   pub rows-hold : rows′ ≡ rows
   pub choice-holds : choice′ ≡ choice
 
--- the run has the three promises of every book that was so kept and counted
-pub record CountedRan (kept : List ℕ) (size : ℕ) (rows : List ℤ) (choice : List ℕ) (code place : ℕ) (totals : Totals) (rows′ : List ℤ) (choice′ : List ℕ) : Type 0 where
-  pub of-book : (b : List ℕ) → KeptOf b kept size → Ran b rows choice code place totals rows′ choice′
-  pub of-none : OfNoBook kept size → Unread size rows choice code place totals rows′ choice′
+-- the run has the three promises of the book
+abbrev pub CountedRan : List ℕ → ℕ → List ℤ → List ℕ → ℕ → ℕ → Totals → List ℤ → List ℕ → Type 0
+CountedRan kept size rows choice code place totals rows′ choice′ =
+    Counted kept size
+    (λ b. Ran b rows choice code place totals rows′ choice′)
+    (NoFigures size rows choice code place totals rows′ choice′)

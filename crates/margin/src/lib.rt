@@ -15,7 +15,7 @@ use paper::Shape;
 use paper::Totals;
 use paper::Verdict;
 
-// What is known of an item at a point.
+// An amount of an item, where there is such an item.
 pub enum Item {
     Amount(i64),
     Nothing,
@@ -85,7 +85,8 @@ fn whole(kept: usize, size: usize) -> bool
     (kept == kept_of(size)) & (size % 32 == 0)
 }
 
-// The verdict on a book of which the first 345 records were kept, and the bytes of the whole were counted.
+// The verdict on a book of which the first 345 records were kept, and the bytes of the whole were counted. Bytes and a number
+// that are of no book have no length, and are refused as a faulty one.
 pub fn scan_counted(kept: &[u8], size: usize) -> Verdict
     ensures { λ v. ⌜ CountedVerdict (now (kept .entry)) size v ⌝ }
 {

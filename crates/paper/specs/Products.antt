@@ -11,6 +11,7 @@ use Rattle.paper.specs.declared.Position.{Position}
 use Rattle.paper.specs.declared.Holding.{Holding}
 use Rattle.paper.specs.declared.Shape.{Shape}
 use Rattle.paper.specs.Sums.{sum, only, lowest}
+use Rattle.paper.specs.Units.{hundredth}
 use Rattle.paper.specs.Records.{bought, tradedToday, classOf, instrumentOf, positionOf}
 use Rattle.paper.specs.Refusals.{byProduct}
 use Rattle.paper.specs.Rounding.{nearest}
@@ -74,7 +75,7 @@ fra x m buys i = nearest (cond buys (rising x m i) (falling x m i) *ℤ pos (x .
 -- "Product 2 (..): bought (-s(i) - Adj m) / (100 m), sold (s(i) - Adj m) / (100 m), rounded to a whole number of
 -- hundredths of a basis point, then times 25."
 abbrev pub future : Instrument → ℕ → Bool → ℕ → ℤ
-future x m buys i = nearest (cond buys (falling x m i) (rising x m i)) (100 * m) *ℤ pos 25
+future x m buys i = nearest (cond buys (falling x m i) (rising x m i)) (hundredth * m) *ℤ pos 25
 
 -- "Product 3 (..): fixing times (s(i) - Adj m), or (-s(i) - Adj m) if sold, over (1,000,000 m), rounded to whole øre."
 abbrev pub bond : Instrument → ℕ → Bool → ℕ → ℤ

@@ -9,7 +9,7 @@ fullRate = 100000000
 abbrev pub basisPoint : ℕ
 basisPoint = 10000
 
--- a hundredth of a basis point, to which product 2 is rounded
+-- "hundredths of a basis point": 100 rate units, the 100 of product 2's formula
 abbrev pub hundredth : ℕ
 hundredth = basisPoint / 100
 

@@ -1,2 +1,3 @@
 -- What is proved of rates beside the functions' own contracts.
+pub mod Units
 pub mod Determined

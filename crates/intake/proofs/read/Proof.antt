@@ -35,7 +35,7 @@ same-length c = search needs
 returns : tie.Need-returns Inv-loop μ-loop
 returns c =
     let l = c .before .before .before .before .before .before .loop in
-    let h = held keptBytes (l .input) (c .before .before .before .next .result) _ (l .inv .2) (c .before .before .before .next .ensures) in
+    let h = held keptBytes (l .input) (c .before .before .before .next .result) _ (l .inv .2) (c .before .before .before .next .ensures .0) in
     record { kept-is = h .kept-is; over = not-true _ (c .if1 .taken) }
 
 -- src/lib.rt:142:9
@@ -51,7 +51,7 @@ loop-again : tie.Need-loop-again Inv-loop μ-loop
 loop-again c =
     let l = c .before .before .before .before .before .before .loop in
     let n = c .before .before .before .next in
-    (n .kept .0 ∙ l .inv .0, omega arith, more (omega arith) (held keptBytes (l .input) (n .result) _ (l .inv .2) (n .ensures)))
+    (n .kept .0 ∙ l .inv .0, omega arith, more (omega arith) (held keptBytes (l .input) (n .result) _ (l .inv .2) (n .ensures .0)))
 
 -- src/lib.rt:144:5
 closed-requires : tie.Need-closed-requires Inv-loop μ-loop

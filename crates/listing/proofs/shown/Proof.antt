@@ -1,8 +1,8 @@
 use mathlib.Core.Path.{sym}
 use Prim.Native.Nat.{_≤_}
 use native.Mathlib.Omega.{arith}
-use lib.Seq.{length-take-le}
 use lib.ListN.{length}
+use lib.Seq.{length-take-le}
 use Rattle.listing.proofs.Whole.{within, as-long}
 use borrow.Author.Needs.{needs}
 use Rattle.listing.proofs.shown.Statement.{statement}

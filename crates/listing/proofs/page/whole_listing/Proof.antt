@@ -1,8 +1,16 @@
+use mathlib.Core.Path.{sym}
 use native.Mathlib.Omega.{arith}
+use lib.ListN.{take}
+use lib.Seq.{length-take-le}
 use Rattle.listing.proofs.Whole.{never-short}
 use borrow.Author.Needs.{needs}
 use Rattle.listing.proofs.page.whole_listing.Statement.{statement}
 use Rattle.listing.proofs.page.whole_listing.Tie as tie
+
+slice-aggregate-listing : tie.Need-slice-aggregate-listing
+slice-aggregate-listing c =
+    let s = c .before .before in
+    sym (length-take-le (s .args .read .kept) (s .args .buffer .now) (omega (arith, s .pre .room, s .pre .first)))
 
 listing-requires : tie.Need-listing-requires
 listing-requires c κs = search needs
@@ -18,9 +26,10 @@ returns c = rw (c .before .page .given .1) at (c .before .before .before .listin
 
 returns-2 : tie.Need-returns-2
 returns-2 c =
-    let a = c .before .before .before .before .before .args in
-    absurd (never-short (a .kept .now) (a .read .whole) (a .out .now) _ (search needs) (rw (c .enum-told .given .1) at (c .before .before .listing .ensures)))
+    let a = c .before .before .before .before .before .before .args in
+    absurd (never-short (take (a .read .kept) (a .buffer .now)) (a .read .whole) (a .out .now) _ (search needs) (rw (c .enum-told .given .1) at (c .before .before .listing .ensures)))
 
 pub whole-listing-spec : {M : Type 1} → statement M
 whole-listing-spec =
-    tie.close (tie.spec listing-requires enum-known-page enum-told returns returns-2)
+    tie.close
+    (tie.spec slice-aggregate-listing listing-requires enum-known-page enum-told returns returns-2)
