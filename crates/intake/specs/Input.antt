@@ -1,6 +1,6 @@
 -- How far standard input is read. Which bytes come, and how many, is the system's to say.
 use mathlib.Core.Path.{_≡_}
-use mathlib.Core.Bool.{Bool, true, false, cond, _||_}
+use mathlib.Core.Bool.{true, false, cond, _||_}
 use Prim.Native.Nat.{ℕ, _+_, _≤_, min}
 use lib.Dec.{eqb}
 use lib.IntN.{ℤ}

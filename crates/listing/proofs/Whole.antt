@@ -1,12 +1,10 @@
 -- From the verdict on what was kept to the listing of the whole book, and that its text always fits. Assumes nothing.
 use mathlib.Core.Path.{_≡_, refl, sym, ap, _∙_}
-use mathlib.Core.Bool.{Bool, true, false, cond}
 use mathlib.Core.List.{List, _++_}
 use Prim.Native.Nat.{ℕ, _+_, _/_, _^_, _≤_, _<_}
 use native.Mathlib.Decide.{ℕ-discrete}
 use native.Mathlib.Omega.{arith}
 use borrow.Author.Tests.{le-ltb}
-use lib.Dec.{ltb}
 use lib.ListN.{length, drop, length-append, length-drop}
 use Rattle.paper.specs.declared.Shape.{Shape}
 use Rattle.paper.specs.declared.Fault.{Fault}
@@ -18,7 +16,7 @@ use Rattle.paper.specs.Refusals.{verdictOf}
 use Rattle.paper.specs.Answers.{codeOf}
 use Rattle.paper.specs.Listing.{listingFor, listingOf}
 use Rattle.book.proofs.Verdicts.{refused-out, length-out}
-use Rattle.margin.specs.Counted.{KeptOf, OfNoBook, CountedVerdict}
+use Rattle.margin.specs.Counted.{KeptOf, CountedVerdict}
 use Rattle.margin.proofs.Answers.{same-fault}
 use Rattle.margin.proofs.Promises.{no-refusal}
 use Rattle.margin.proofs.Counted.{by-book, counted-sound, counted-read}

@@ -1,12 +1,12 @@
 -- What was kept of a book, with its length, has the verdict and the run of the whole; and whether there is such a book.
 -- Assumes nothing.
 use mathlib.Core.Path.{_≡_, refl, sym, ap, subst, _∙_}
-use mathlib.Core.Bool.{Bool, true, false, _&&_}
-use mathlib.Core.List.{List, [], _++_, append-nil}
-use Prim.Native.Nat.{ℕ, _+_, _-_, _*_, _/_, _%_, _≤_, _<_, min}
+use mathlib.Core.Bool.{true, false}
+use mathlib.Core.List.{List, _++_, append-nil}
+use Prim.Native.Nat.{ℕ, _+_, _-_, _/_, _%_, _≤_, min}
 use native.Mathlib.Decide.{ℕ-discrete, decLt}
 use native.Mathlib.Omega.{arith}
-use borrow.Author.Tests.{eq-eqb, ne-eqb, eqb-true}
+use borrow.Author.Tests.{eq-eqb, eqb-true}
 use lib.Dec.{eqb}
 use lib.IntN.{ℤ}
 use lib.ListN.{length, take, replicate, length-append, length-replicate, length-take}
@@ -18,8 +18,8 @@ use Rattle.paper.specs.declared.Totals.{Totals}
 use Rattle.paper.specs.declared.Verdict.{Verdict}
 use Rattle.paper.specs.declared.Verdict.the-variants.{Sound, Refused}
 use Rattle.paper.specs.Records.{recordBytes, wholeRecords}
-use Rattle.paper.specs.Refusals.{lengthFault, verdictOf, verdictOn, withRoom}
-use Rattle.paper.specs.Answers.{codeOf, noTotals, codeGiven, placeGiven, totalsGiven, rowsOn, rowsAfter, choiceOn, choiceAfter}
+use Rattle.paper.specs.Refusals.{lengthFault, verdictOf, verdictOn}
+use Rattle.paper.specs.Answers.{codeOf, noTotals, rowsAfter, choiceAfter}
 use Rattle.paper.specs.Listing.{keptRecords, keptBytes}
 use Rattle.ranges.proofs.Choices.{both}
 use Rattle.book.proofs.Sound.{never-longer}

@@ -1,7 +1,7 @@
 -- The figures of a sound book, mark-to-market among them, each fit an i64, and its points are on the scale. Assumes nothing.
 use mathlib.Core.Path.{_≡_}
 use mathlib.Core.List.{List}
-use Prim.Native.Nat.{ℕ, _<_, _≤_}
+use Prim.Native.Nat.{ℕ, _<_}
 use native.Mathlib.Omega.{arith}
 use lib.IntN.{pos, +ℤ-idl}
 use mir.Syntax.{w64}

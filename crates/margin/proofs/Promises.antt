@@ -1,23 +1,22 @@
 -- From a verdict and the figures to the three promises. Assumes nothing.
-use mathlib.Core.Path.{_≡_, refl, sym, ap, ap₂, subst, _∙_}
+use mathlib.Core.Path.{_≡_, refl, sym, ap, _∙_}
 use mathlib.Core.List.{List, _++_}
 use Prim.Native.Nat.{ℕ, _+_, _*_, _≤_, _<_}
 use native.Mathlib.Decide.{decLt}
 use native.Mathlib.Omega.{arith}
 use borrow.Author.Tests.{lt-ltb, le-ltb}
 use lib.IntN.{ℤ}
-use lib.ListN.{length, getD, drop, List·getD-append}
+use lib.ListN.{length, drop, List·getD-append}
 use Rattle.paper.specs.declared.Shape.{Shape}
 use Rattle.paper.specs.declared.Totals.{Totals}
 use Rattle.paper.specs.declared.Fault.{Fault}
 use Rattle.paper.specs.declared.Verdict.{Verdict}
 use Rattle.paper.specs.declared.Verdict.the-variants.{Sound, Refused}
-use Rattle.paper.specs.Sums.{sum, listed}
+use Rattle.paper.specs.Sums.{listed}
 use Rattle.paper.specs.Records.{wholeRecords}
 use Rattle.paper.specs.Refusals.{verdictOf, verdictOn, withRoom}
-use Rattle.paper.specs.Windows.{Near}
-use Rattle.paper.specs.Trees.{Tree, Allowed, totalOf, LowestTotal, rowOf, crossOf, classChoice, itemChoice}
-use Rattle.paper.specs.Answers.{Walk, walkOf, codeOf, noTotals, codeGiven, placeGiven, totalsGiven, rowsOn, rowsAfter, choiceOn, choiceAfter, choiceFor, classPoint, itemPoint, LowestOfBook}
+use Rattle.paper.specs.Trees.{Tree, totalOf, LowestTotal, rowOf, crossOf, classChoice, itemChoice}
+use Rattle.paper.specs.Answers.{Walk, walkOf, codeOf, noTotals, codeGiven, placeGiven, totalsGiven, rowsOn, rowsAfter, choiceOn, choiceAfter, choiceFor, classPoint, itemPoint}
 use Rattle.amount.proofs.Sums.{sum-cong}
 use Rattle.amount.proofs.Lists.{listed-length, listed-at}
 use Rattle.tree.proofs.Rows.{Valid}

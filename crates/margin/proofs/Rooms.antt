@@ -1,6 +1,5 @@
 -- Codes 9 and 10 are given exactly when the paper says, and an empty book is accepted with zeros. Assumes nothing.
 use mathlib.Core.Path.{_≡_, refl, sym, ap, ap₂, _∙_}
-use mathlib.Core.Bool.{Bool, true, false}
 use mathlib.Core.List.{List, []}
 use Prim.Native.Nat.{ℕ, _+_, _*_, _≤_, _<_}
 use native.Mathlib.Decide.{decLt}
@@ -19,8 +18,8 @@ use Rattle.paper.specs.Records.{wholeRecords, le16, classAt, shapeOf, count}
 use Rattle.paper.specs.Refusals.{verdictFrom, verdictOf, verdictOn, withRoom}
 use Rattle.paper.specs.Products.{markTotal, nakedTotal}
 use Rattle.paper.specs.Trees.{crossOf}
-use Rattle.paper.specs.Answers.{codeOf, noTotals, figures, codeGiven, placeGiven, totalsGiven, rowsFor, choiceFor, rowsAfter, choiceAfter}
-use Rattle.book.proofs.Verdicts.{refused-out, length-out, record-fault}
+use Rattle.paper.specs.Answers.{codeOf, noTotals, codeGiven, placeGiven, rowsFor, choiceFor, rowsAfter, choiceAfter}
+use Rattle.book.proofs.Verdicts.{refused-out, record-fault}
 use Rattle.margin.specs.Run.{Ran}
 use Rattle.margin.proofs.Answers.{same-fault}
 use Rattle.margin.proofs.Promises.{no-refusal}

@@ -1,16 +1,5 @@
-use mathlib.Core.Path.{_≡_, refl, _∙_, ap, sym}
-use mathlib.Core.List.{List, [], _∷_, _++_}
-use Prim.Native.Nat.{ℕ, _+_, _-_, _≤_, _<_}
 use native.Mathlib.Omega.{arith}
 use borrow.Author.Needs.{needs}
-use lib.IntN.{ℤ}
-use lib.ListN.{length, take, drop, length-append}
-use mir.Facts.{toZ-ofZ}
-use Rattle.paper.specs.Listing.{decimal, kroner, fields}
-use Rattle.text.specs.declared.Text.{Text}
-use Rattle.text.specs.Text.{room, right, shown, inFront}
-use Rattle.kroner.proofs.Signs.{kroner-short}
-use Rattle.lines.proofs.Fields.{shows, ready, no-fields, one-field, field-length, end-length, number-short, front, shown-length, lent}
 use Rattle.lines.proofs.newline.Statement.{statement}
 use Rattle.lines.proofs.newline.Tie as tie
 

@@ -1,20 +1,13 @@
-use mathlib.Core.Path.{_≡_, refl, _∙_, ap, sym}
-use mathlib.Core.List.{List}
-use Prim.Native.Nat.{ℕ, _+_, _*_, _≤_, _<_}
+use mathlib.Core.Path.{_≡_, _∙_}
+use Prim.Native.Nat.{_+_}
 use native.Mathlib.Omega.{arith}
 use borrow.Author.Needs.{needs}
-use lib.IntN.{ℤ, pos, +ℤ-idl}
-use lib.ListN.{length}
-use Rattle.paper.specs.declared.Shape.{Shape}
-use Rattle.paper.specs.declared.Totals.{Totals}
-use Rattle.paper.specs.Products.{termsOf, positionsOf, markTotal, nakedTotal}
-use Rattle.paper.specs.Trees.{rowOf, crossOf}
-use Rattle.paper.specs.Answers.{walkOf, figures, rowsFor, choiceFor, addMark, addNaked, addCross, noTotals}
-use Rattle.tree.specs.Buffers.{rowsIn, HoldsRows}
+use lib.IntN.{ℤ, +ℤ-idl}
+use Rattle.paper.specs.Answers.{walkOf, addMark, addNaked, addCross, noTotals}
+use Rattle.tree.specs.Buffers.{HoldsRows}
 use Rattle.tree.proofs.Filled.{rows-read}
 use Rattle.tree.proofs.Read.{cross-held}
 use Rattle.tree.proofs.Book.{valid}
-use Rattle.margin.specs.Run.{Figured}
 use Rattle.margin.proofs.figures.Statement.{statement}
 use Rattle.margin.proofs.figures.Tie as tie
 

@@ -1,6 +1,5 @@
 use mathlib.Core.Path.{_≡_, _∙_, sym, ap}
 use borrow.Author.Needs.{needs}
-use Rattle.paper.specs.declared.Verdict.{Verdict}
 use Rattle.paper.specs.declared.Verdict.the-variants.{Sound}
 use Rattle.paper.specs.Refusals.{verdictOf}
 use Rattle.margin.specs.Items.{itemFor, itemOf}

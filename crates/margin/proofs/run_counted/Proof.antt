@@ -1,4 +1,4 @@
-use mathlib.Core.Path.{_≡_, _∙_, sym}
+use mathlib.Core.Path.{_∙_, sym}
 use Rattle.paper.specs.Answers.{answerCode, answerPlace, answerTotals}
 use Rattle.margin.proofs.Counted.{ran-whole, ran-torn}
 use borrow.Author.Needs.{needs}

@@ -1,4 +1,4 @@
-use mathlib.Core.Path.{_≡_, _∙_, sym}
+use mathlib.Core.Path.{_∙_, sym}
 use borrow.Author.Needs.{needs}
 use Rattle.margin.proofs.Counted.{counted-whole, counted-torn}
 use Rattle.margin.proofs.scan_counted.Statement.{statement}

@@ -1,4 +1,3 @@
-use mathlib.Core.Path.{_≡_}
 use native.Mathlib.Omega.{arith}
 use Rattle.paper.specs.declared.Verdict.the-variants.{Sound, Refused}
 use Rattle.paper.specs.Answers.{codeOf}
