@@ -1,5 +1,6 @@
-// Either side of every limit on sizes: a book's length, the records of each kind, the buffers lent to a run. A line a case, with
-// its name and the answer; of a run also whether its totals are zero, and how many entries of the rows and the choice it wrote.
+// Either side of every limit on sizes: a book's length, the records of each kind, what was kept of what was counted, and the
+// buffers lent to a run. A line a case, with its name and the answer; of a run also whether its totals are zero, and how many
+// entries of the rows and the choice it wrote.
 ghost use Prim.Native.Nat.{_+_, _<_, _≤_};
 use libc::STDOUT_FILENO;
 use paper::Answer;
@@ -9,6 +10,7 @@ fn main() {
     lengths();
     numbers();
     two_faults();
+    counts();
     runs();
     full_runs();
 }
@@ -144,6 +146,34 @@ fn two_faults() {
     faults(b"limit and range", filled(24, 65, 0), 88, 1, 4);
     faults(b"limit and reference", filled(24, 64, 257), 344, 2, 64);
     faults(b"order and limit", filled(24, 2, 0), 25, 0, 67);
+}
+
+fn answer_counted(kept: &[u8], size: usize) -> Answer {
+    let mut rows = [0i64; 72];
+    let mut choice = [0u16; 88];
+    margin::run_counted(kept, size, &mut rows, &mut choice)
+}
+
+// So many bytes kept of a sound book of 9 records, and so many counted: what was cut has no figures.
+fn counted(kept: usize, size: usize)
+    requires { ⌜ kept ≤ 11040 ⌝ }
+{
+    let book = filled(2, 3, 4);
+    word(b"kept");
+    number(kept);
+    word(b" of");
+    number(size);
+    ended(answer_counted(&book[0..kept], size));
+    word(b"\n");
+}
+
+fn counts() {
+    counted(288, 288);
+    counted(0, 0);
+    counted(0, 12_800);
+    counted(256, 288);
+    counted(288, 256);
+    counted(288, 289);
 }
 
 fn one(changed: bool) -> usize
