@@ -24,10 +24,10 @@ Within room Failed = Unit {0}
 abbrev pub nothingRead : Input
 nothingRead = record { kept = 0; whole = 0; going = true; failed = false }
 
--- after one read more: the count grows by what came, of which the first are kept; the end is no failure, and a failure no end
+-- after one read more: the count grows by what came, of which the first are kept; the end is no failure, and a failure stays one
 abbrev pub after : ℕ → Input → Came → Input
-after room i (Bytes n) = record { kept = min room (i .whole + n); whole = i .whole + n; going = true; failed = false }
-after room i End = record { kept = i .kept; whole = i .whole; going = false; failed = false }
+after room i (Bytes n) = record { kept = min room (i .whole + n); whole = i .whole + n; going = i .going; failed = i .failed }
+after room i End = record { kept = i .kept; whole = i .whole; going = false; failed = i .failed }
 after room i Failed = record { kept = i .kept; whole = i .whole; going = false; failed = true }
 
 -- one read more, whatever came

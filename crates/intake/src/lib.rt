@@ -43,12 +43,12 @@ impl Input {
         Input {
             kept: least(room, whole),
             whole,
-            going: true,
-            failed: false,
+            going: self.going,
+            failed: self.failed,
         }
     }
 
-    // One read more.
+    // One read more. What failed before stays so.
     pub fn after(self, room: usize, came: Came) -> Input
         requires { ⌜ (self .whole ≤ 4000000000000000000) × Within 1000000 came ⌝ }
         ensures { λ r. ⌜ r ≡ afterOf room self came ⌝ }
@@ -59,7 +59,7 @@ impl Input {
                 kept: self.kept,
                 whole: self.whole,
                 going: false,
-                failed: false,
+                failed: self.failed,
             },
             Came::Failed => Input {
                 kept: self.kept,
@@ -128,7 +128,8 @@ fn next(kept: &mut [u8], input: Input) -> Input
     input.after(room, more)
 }
 
-// Reads standard input to its end or to a failure, keeping what the buffer holds and counting the rest.
+// Reads standard input to its end or to a failure, keeping what the buffer holds and counting the rest. One that goes on and on
+// counts as failed.
 pub fn read(kept: &mut [u8]) -> Input
     requires { ⌜ length (now kept) ≡ keptBytes ⌝ }
     ensures { λ r. ⌜ ReadTo keptBytes r ⌝ }

@@ -66,4 +66,5 @@ Listed kept size out page out′ =
 pub record ReadWhole (buffer : List ℕ) (read : Input) : Type 0 where
   pub room : length buffer ≡ keptBytes
   pub first : read .kept ≡ min keptBytes (read .whole)
+  pub over : read .going ≡ false
   pub ended : read .failed ≡ false

@@ -1,4 +1,4 @@
-// The evening listing of the book on standard input: it is read, its listing is worked out once, and this is written once.
+// The evening listing of the book on standard input: it is read, its listing is worked out once and handed over in one call.
 ghost use Rattle.listing.specs.Page.{ReadWhole};
 use intake::Input;
 use libc::STDERR_FILENO;

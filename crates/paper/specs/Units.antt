@@ -1,4 +1,4 @@
--- "Units": what a rate and a nominal are in the numbers of a record.
+-- "Units": rates and the nominal, in whole numbers.
 use Prim.Native.Nat.{ℕ, _/_}
 
 -- "rates in hundred-millionths, so 3.70 % is 3,700,000": the full rate, 100 %

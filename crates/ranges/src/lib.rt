@@ -30,7 +30,7 @@ struct Limits {
     adj: Span,
 }
 
-// Fixings and prices are yields, so none is above the full rate.
+// Fixings and prices are yields: the paper's limit is the full rate.
 fn fra() -> Limits
     ensures { λ l. ⌜ l ≡ fraOf ⌝ }
 {
