@@ -19,6 +19,10 @@ ready t s k e h =
     let f : t .from ≡ room - length s = ap (λ (u : Text). u .from) e in
     (e ∙ ap right (sym (shows s e)), omega arith, omega arith)
 
+-- a text with these bytes in front
+pub joined : {r t : Text} (f s : List ℕ) → r ≡ right (f ++ shown t) → t ≡ right s → r ≡ right (f ++ s)
+joined f s g e = g ∙ ap (λ (u : List ℕ). right (f ++ u)) (shows s e)
+
 pub no-fields : right (10 ∷ []) ≡ right (fields [])
 unfolding fields
 no-fields = refl

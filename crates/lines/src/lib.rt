@@ -1,7 +1,7 @@
 // The lines of a listing, each put together from its end: a tag of at most eight bytes, and its fields.
 ghost use mathlib.Core.Path.{_≡_};
 ghost use mathlib.Core.List.{List, [], _∷_, _++_};
-ghost use Prim.Native.Nat.{ℕ, _≤_};
+ghost use Prim.Native.Nat.{ℕ, _+_, _≤_};
 ghost use lib.ListN.{length};
 ghost use Rattle.text.specs.Text.{room, right, shown};
 ghost use Rattle.paper.specs.Listing.{decimal, kroner as kronerOf, line};
@@ -55,4 +55,13 @@ pub fn item(tag: &[u8], i: u64, point: u64, z: i64) -> Text
     ensures { λ r. ⌜ r ≡ right (line (now (tag .entry)) (decimal i ∷ decimal point ∷ kronerOf z ∷ [])) ⌝ }
 {
     text::with_bytes(number(number(amount(newline(), z), point), i), tag)
+}
+
+// A remark in words with a number in it: what stands before the number, what after it, and what is said.
+pub fn remark(front: &[u8], n: u64, middle: &[u8], meaning: &[u8]) -> Text
+    requires { ⌜ length (now front) + length (now middle) + length (now meaning) ≤ 70 ⌝ }
+    ensures { λ r. ⌜ r ≡ right (now (front .entry) ++ (decimal n ++ (now (middle .entry) ++ (now (meaning .entry) ++ (10 ∷ []))))) ⌝ }
+{
+    let said = text::with_bytes(text::with_bytes(newline(), meaning), middle);
+    text::with_bytes(text::with_decimal(said, n), front)
 }

@@ -5,7 +5,8 @@ use Prim.Native.Nat.{ℕ, _+_, _/_, _^_, _≤_, _<_}
 use native.Mathlib.Decide.{ℕ-discrete}
 use native.Mathlib.Omega.{arith}
 use borrow.Author.Tests.{le-ltb}
-use lib.ListN.{length, drop, length-append, length-drop}
+use lib.ListN.{length, take, drop, length-append, length-drop}
+use lib.Seq.{length-take-le}
 use Rattle.paper.specs.declared.Shape.{Shape}
 use Rattle.paper.specs.declared.Fault.{Fault}
 use Rattle.paper.specs.declared.Fault.the-variants.{Length}
@@ -16,13 +17,14 @@ use Rattle.paper.specs.Refusals.{verdictOf}
 use Rattle.paper.specs.Answers.{codeOf}
 use Rattle.paper.specs.Listing.{listingFor, listingOf}
 use Rattle.book.proofs.Verdicts.{refused-out, length-out}
+use Rattle.intake.specs.declared.Input.{Input}
 use Rattle.margin.specs.Counted.{KeptOf, CountedVerdict}
 use Rattle.margin.proofs.Answers.{same-fault}
 use Rattle.margin.proofs.Promises.{no-refusal}
 use Rattle.margin.proofs.Counted.{by-book, counted-sound, counted-read}
 use Rattle.listing.specs.declared.page.Page.{Page}
 use Rattle.listing.specs.declared.page.Page.the-variants.{Written, Short}
-use Rattle.listing.specs.Page.{Added, refusedLine, most, Printed, Listed}
+use Rattle.listing.specs.Page.{Added, refusedLine, most, Printed, Listed, ReadWhole}
 use Rattle.listing.proofs.Pages.{too-short, printed}
 use Rattle.listing.proofs.Lengths.{refused-short, sound-short}
 
@@ -34,6 +36,10 @@ place-most b f place e = elim (ℕ-discrete (codeOf f) (codeOf Length)) [
       omega (arith, length-out b place g .1)
   | no h ↦ omega (arith, refused-out b f place (λ k. h (ap codeOf k)) e .within)
 ]
+
+-- what was kept lies within the buffer
+pub kept-long : {buffer : List ℕ} {read : Input} → ReadWhole buffer read → read .kept ≡ length (take (read .kept) buffer)
+kept-long {buffer} {read} w = sym (length-take-le (read .kept) buffer (omega (arith, w .room, w .first)))
 
 -- no listing of a book, whatever it holds, is longer than the program's buffer
 pub listing-short : (b : List ℕ) → length b < 2 ^ 64 → length (listingOf b) ≤ most

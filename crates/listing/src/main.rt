@@ -1,8 +1,13 @@
-// The evening listing of the book on standard input: it is read, its listing is worked out once and handed over in one call.
+// The evening listing of the book on standard input: it is read, its listing is worked out once and handed over in one call. A
+// refusal is said in words too, on standard error.
+ghost use Prim.Native.Nat.{_≤_};
+ghost use Rattle.text.specs.Text.{room};
 ghost use Rattle.listing.specs.Page.{ReadWhole};
 use intake::Input;
 use libc::STDERR_FILENO;
 use libc::STDOUT_FILENO;
+use paper::Verdict;
+use text::Text;
 
 mod page; // page.rt: the listing's text
 
@@ -13,6 +18,36 @@ fn shown(buffer: &[u8], read: Input) -> bool
     let mut out = [0u8; 2570];
     let n = page::whole_listing(buffer, read, &mut out);
     io::write_all(STDOUT_FILENO, &out[..n])
+}
+
+// The kind of a record that was kept, and none of any other.
+fn kind_of(buffer: &[u8], place: usize) -> u8 {
+    if place < buffer.len() / 32 {
+        record::kind_at(buffer, place)
+    } else {
+        0
+    }
+}
+
+// Says a line on standard error, in one write.
+fn told(line: Text)
+    requires { ⌜ line .from ≤ room ⌝ }
+{
+    let bytes = line.bytes;
+    let from = line.from;
+    io::write_all(STDERR_FILENO, &bytes[from..]);
+}
+
+// Says why the book was refused, if it was.
+fn explained(buffer: &[u8], read: Input)
+    requires { ⌜ ReadWhole (now buffer) read ⌝ }
+{
+    let n = read.kept;
+    let verdict = margin::scan_counted(&buffer[..n], read.whole);
+    match verdict {
+        Verdict::Sound(_) => {}
+        Verdict::Refused(f, place) => told(words::refusal(f, place, kind_of(buffer, place))),
+    }
 }
 
 fn main() {
@@ -27,5 +62,7 @@ fn main() {
             STDERR_FILENO,
             b"listing: the listing could not be written whole\n",
         );
+        return;
     }
+    explained(&kept, read);
 }

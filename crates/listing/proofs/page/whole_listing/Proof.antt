@@ -1,16 +1,11 @@
-use mathlib.Core.Path.{sym}
-use native.Mathlib.Omega.{arith}
 use lib.ListN.{take}
-use lib.Seq.{length-take-le}
-use Rattle.listing.proofs.Whole.{never-short}
+use Rattle.listing.proofs.Whole.{kept-long, never-short}
 use borrow.Author.Needs.{needs}
 use Rattle.listing.proofs.page.whole_listing.Statement.{statement}
 use Rattle.listing.proofs.page.whole_listing.Tie as tie
 
 slice-aggregate-listing : tie.Need-slice-aggregate-listing
-slice-aggregate-listing c =
-    let s = c .before .before in
-    sym (length-take-le (s .args .read .kept) (s .args .buffer .now) (omega (arith, s .pre .room, s .pre .first)))
+slice-aggregate-listing c = kept-long (c .before .before .pre)
 
 listing-requires : tie.Need-listing-requires
 listing-requires c κs = search needs

@@ -1,0 +1,2 @@
+-- What is proved of words beside the functions' own contracts.
+pub mod Determined

@@ -1,0 +1,2 @@
+-- What a refusal is called.
+pub mod Words
