@@ -5,8 +5,6 @@ pub mod bench;
 pub mod books;
 pub mod brute;
 pub mod compare;
-#[cfg(feature = "linked")]
-pub mod desk;
 pub mod encode;
 pub mod faults;
 pub mod random;

@@ -26,10 +26,6 @@ fn main() -> ExitCode {
         ["listing", program, rest @ ..] => {
             options(rest, LISTINGS).and_then(|options| listed(program, &options))
         }
-        ["bench", ..] if !cfg!(feature = "linked") => Err(
-            "bench: times mean something only where the library is linked: x86-64, --features linked"
-                .to_string(),
-        ),
         ["bench", rest @ ..] => options(rest, 0).map(|options| bench::run(options.range.seed)),
         _ => Err("harness compare | listing PROGRAM | bench".to_string()),
     };

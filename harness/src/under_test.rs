@@ -1,8 +1,20 @@
-//! The program under test: the static library, linked where its processor is this one and the feature `linked` is on, else
-//! asked through the server.
+//! The program under test: the static library for this processor, linked through its Rust package.
 
-#[cfg(feature = "linked")]
-pub use crate::desk::run;
-
-#[cfg(not(feature = "linked"))]
-pub use crate::server::run;
+/// Code, place, mark-to-market, naked and cross margin; the buffers are lent.
+pub fn run(book: &[u8], rows: &mut [i64], choice: &mut [u16]) -> [i64; 5] {
+    if std::env::var_os("DESK_SERVER").is_some() {
+        return crate::server::run(book, rows, choice);
+    }
+    let desk::lent::Answer {
+        code,
+        place,
+        totals,
+    } = desk::lent::answer(book, rows, choice);
+    [
+        code as i64,
+        place as i64,
+        totals.mark,
+        totals.naked,
+        totals.cross,
+    ]
+}
