@@ -6,6 +6,7 @@ use crate::random::Random;
 use crate::record::{limits, ROOT};
 
 /// One book and the lengths of the two buffers lent with it.
+#[derive(Clone, Debug, PartialEq, Eq)]
 pub struct Case {
     pub book: Vec<u8>,
     pub rows_len: usize,
@@ -113,7 +114,7 @@ fn taste(random: &mut Random, points: u64) -> Taste {
     }
 }
 
-pub fn sound(random: &mut Random, size: Size) -> Vec<Record> {
+fn sound(random: &mut Random, size: Size) -> Vec<Record> {
     let taste = taste(random, size.points);
     let shape = random.below(7);
     let placing = random.below(4);
@@ -141,7 +142,7 @@ pub fn sound(random: &mut Random, size: Size) -> Vec<Record> {
 }
 
 /// Chain, star, many roots, forest, wide tree, two children each, any tree.
-pub fn parent(random: &mut Random, shape: u64, number: u64) -> u64 {
+fn parent(random: &mut Random, shape: u64, number: u64) -> u64 {
     if number == 0 {
         return ROOT;
     }

@@ -1,27 +1,27 @@
 //! A third opinion on the lowest total: every allowed choice of a small tree.
 
+use crate::ore::Ore;
 use crate::record::Book;
 use crate::second::{reach, vectors};
 
 /// How many choices there are before the reach cuts any off.
 pub fn choices(book: &Book) -> u128 {
-    let chosen = (book.classes.len() + book.instruments.len()) as u32;
-    (book.points() as u128).saturating_pow(chosen)
+    (book.points() as u128).saturating_pow(book.choice_len() as u32)
 }
 
 /// The lowest total over all allowed choices.
 pub fn lowest_total(book: &Book) -> i64 {
     let mut choice = Vec::new();
-    lowest_from(book, &vectors(book), &mut choice)
+    lowest_from(book, &vectors(book), &mut choice).number()
 }
 
 /// Classes are chosen in number order, then instruments: parents come first.
-fn lowest_from(book: &Book, vectors: &[Vec<i64>], choice: &mut Vec<u16>) -> i64 {
+fn lowest_from(book: &Book, vectors: &[Vec<Ore>], choice: &mut Vec<u16>) -> Ore {
     let number = choice.len();
-    if number == book.classes.len() + book.instruments.len() {
+    if number == book.choice_len() {
         return total(book, vectors, choice);
     }
-    let mut lowest = i64::MAX;
+    let mut lowest = Ore::HIGHEST;
     for point in 0..book.points() as u16 {
         choice.push(point);
         if is_allowed_at(book, choice, number) {
@@ -32,8 +32,8 @@ fn lowest_from(book: &Book, vectors: &[Vec<i64>], choice: &mut Vec<u16>) -> i64 
     lowest
 }
 
-fn total(book: &Book, vectors: &[Vec<i64>], choice: &[u16]) -> i64 {
-    let mut total = 0;
+fn total(book: &Book, vectors: &[Vec<Ore>], choice: &[u16]) -> Ore {
+    let mut total = Ore::ZERO;
     for (item, vector) in vectors.iter().enumerate() {
         total += vector[usize::from(choice[book.classes.len() + item])];
     }
@@ -60,7 +60,7 @@ fn is_allowed_at(book: &Book, choice: &[u16], number: usize) -> bool {
 
 /// The total of a given choice, or none if the choice is not allowed.
 pub fn total_of(book: &Book, choice: &[u16]) -> Option<i64> {
-    if choice.len() != book.classes.len() + book.instruments.len() {
+    if choice.len() != book.choice_len() {
         return None;
     }
     for number in 0..choice.len() {
@@ -68,5 +68,5 @@ pub fn total_of(book: &Book, choice: &[u16]) -> Option<i64> {
             return None;
         }
     }
-    Some(total(book, &vectors(book), choice))
+    Some(total(book, &vectors(book), choice).number())
 }

@@ -1,73 +1,145 @@
 //! The comparison of the second program with the program under test.
 
+use std::collections::BTreeMap;
 use std::fmt::Debug;
-use std::io::Write;
-use std::process::{Command, Stdio};
+use std::panic::resume_unwind;
+use std::sync::atomic::{AtomicU64, Ordering};
+use std::thread;
 
 use crate::books::{self, Case};
 use crate::brute;
 use crate::record::decode;
 use crate::second::{self, Outcome};
 
-/// The program under test: the five numbers come back, the buffers are lent.
-pub type Program<'a> = dyn FnMut(&[u8], &mut [i64], &mut [u16]) -> [i64; 5] + 'a;
-
-/// The listing program under test: the text for a book, or why there is none.
-pub type Listing<'a> = dyn FnMut(&[u8]) -> Result<Vec<u8>, String> + 'a;
+/// The five numbers of the program under test, or why it gave none.
+pub type Answer = Result<[i64; 5], String>;
 
 /// What differs, and how.
 pub type Found = (&'static str, String);
+
+/// A case's code and whether every allowed choice was tried too, or what differs.
+pub type Verdict = Result<(u64, bool), Found>;
 
 pub struct Difference {
     pub index: u64,
     pub what: &'static str,
     pub detail: String,
-    pub book: Vec<u8>,
+    pub case: Case,
 }
 
-#[derive(Default)]
+#[derive(Debug, Default, PartialEq, Eq)]
 pub struct Counts {
-    pub codes: [u64; 11],
+    /// Books by their code.
+    pub codes: BTreeMap<u64, u64>,
     /// Books in which every allowed choice was tried too.
     pub tried: u64,
 }
 
-/// Which books: count of them from the first index of a seed.
+/// Which books: count of them from the first index of a seed; and on how many threads.
 #[derive(Clone, Copy)]
 pub struct Range {
     pub seed: u64,
     pub first: u64,
     pub books: u64,
+    pub threads: usize,
 }
 
 /// Entries kept before and after each lent buffer, to see writes outside it.
 const KEPT: usize = 16;
 const MOST_CHOICES: u128 = 20_000;
 
-pub fn books(range: Range, program: &mut Program) -> Result<Counts, Difference> {
+/// Judges every case of the range, each thread by a judge of its own; of several differences the one of the lowest index.
+pub fn books<J>(range: Range, judge: impl Fn() -> J + Sync) -> Result<Counts, Difference>
+where
+    J: FnMut(&Case) -> Verdict,
+{
+    let taken = AtomicU64::new(0);
+    let parts: Vec<_> = thread::scope(|scope| {
+        let work = || part(range, &taken, judge());
+        let threads: Vec<_> = (0..range.threads).map(|_| scope.spawn(work)).collect();
+        threads.into_iter().map(|thread| thread.join()).collect()
+    });
     let mut counts = Counts::default();
-    for index in range.first..range.first + range.books {
+    let mut lowest: Option<Difference> = None;
+    for part in parts {
+        match part.unwrap_or_else(|panic| resume_unwind(panic)) {
+            Ok(more) => counts.add(more),
+            Err(other) => {
+                let lower = lowest.as_ref().is_none_or(|one| other.index < one.index);
+                lowest = if lower { Some(other) } else { lowest };
+            }
+        }
+    }
+    lowest.map_or(Ok(counts), Err)
+}
+
+impl Counts {
+    fn add(&mut self, more: Counts) {
+        for (code, books) in more.codes {
+            *self.codes.entry(code).or_default() += books;
+        }
+        self.tried += more.tried;
+    }
+}
+
+/// Takes the range's indices one by one, in rising order, until none is left or a case differs.
+fn part(
+    range: Range,
+    taken: &AtomicU64,
+    mut judge: impl FnMut(&Case) -> Verdict,
+) -> Result<Counts, Difference> {
+    let mut counts = Counts::default();
+    loop {
+        let offset = taken.fetch_add(1, Ordering::Relaxed);
+        if offset >= range.books {
+            return Ok(counts);
+        }
+        let index = range.first + offset;
         let case = books::case(range.seed, index);
-        match check(&case, program) {
+        let named = Named(range.seed, index);
+        match judge(&case) {
             Ok((code, tried)) => {
-                counts.codes[code as usize] += 1;
+                *counts.codes.entry(code).or_default() += 1;
                 counts.tried += u64::from(tried);
             }
             Err((what, detail)) => {
+                // All lower indices are taken, and no higher one is needed.
+                taken.store(range.books, Ordering::Relaxed);
                 return Err(Difference {
                     index,
                     what,
                     detail,
-                    book: case.book,
+                    case,
                 });
             }
         }
+        drop(named);
     }
-    Ok(counts)
 }
 
-/// Compares one case; gives its code and whether every choice was tried.
-pub fn check(case: &Case, program: &mut Program) -> Result<(u64, bool), Found> {
+/// Seed and index, named where the second program itself gives up.
+struct Named(u64, u64);
+
+impl Drop for Named {
+    fn drop(&mut self) {
+        if thread::panicking() {
+            eprintln!("seed {}, index {}: given up", self.0, self.1);
+        }
+    }
+}
+
+/// A judge that asks the program under test, whose buffers are lent.
+pub fn by_program(
+    mut program: impl FnMut(&[u8], &mut [i64], &mut [u16]) -> Answer,
+) -> impl FnMut(&Case) -> Verdict {
+    move |case| check(case, &mut program)
+}
+
+/// Compares one case.
+pub fn check(
+    case: &Case,
+    program: &mut impl FnMut(&[u8], &mut [i64], &mut [u16]) -> Answer,
+) -> Verdict {
     let expected = second::run(&case.book, case.rows_len, case.choice_len);
     // Values that no result and no point can have.
     let mut rows = patterned(case.rows_len, |at| i64::MIN + 7 * at as i64);
@@ -75,7 +147,7 @@ pub fn check(case: &Case, program: &mut Program) -> Result<(u64, bool), Found> {
     let (rows_before, choice_before) = (rows.clone(), choice.clone());
     let lent_rows = &mut rows[KEPT..KEPT + case.rows_len];
     let lent_choice = &mut choice[KEPT..KEPT + case.choice_len];
-    let answer = program(&case.book, lent_rows, lent_choice);
+    let answer = program(&case.book, lent_rows, lent_choice).map_err(|why| ("program", why))?;
     numbers(&expected, answer)?;
     let refused = expected.code != 0;
     entries(
@@ -172,53 +244,4 @@ fn third_opinion(bytes: &[u8], expected: &Outcome) -> Result<bool, Found> {
         ));
     }
     Ok(true)
-}
-
-/// Compares the listing's text, byte for byte.
-pub fn listings(range: Range, program: &mut Listing) -> Result<Counts, Difference> {
-    let mut counts = Counts::default();
-    for index in range.first..range.first + range.books {
-        let book = books::case(range.seed, index).book;
-        if let Err((what, detail)) = check_listing(&book, program) {
-            return Err(Difference {
-                index,
-                what,
-                detail,
-                book,
-            });
-        }
-        let code = second::run(&book, usize::MAX, usize::MAX).code;
-        counts.codes[code as usize] += 1;
-    }
-    Ok(counts)
-}
-
-pub fn check_listing(book: &[u8], program: &mut Listing) -> Result<(), Found> {
-    let wanted = second::listing(book);
-    let text = program(book).map_err(|why| ("program", why))?;
-    if text == wanted.as_bytes() {
-        return Ok(());
-    }
-    let text = String::from_utf8_lossy(&text);
-    Err(("text", format!("second:\n{wanted}\nunder test:\n{text}")))
-}
-
-/// Runs a listing program with the book on standard input.
-pub fn child(path: &str, book: &[u8]) -> Result<Vec<u8>, String> {
-    let start = Command::new(path)
-        .stdin(Stdio::piped())
-        .stdout(Stdio::piped())
-        .spawn();
-    let mut child = start.map_err(|why| format!("{path} does not start: {why}"))?;
-    if let Some(mut input) = child.stdin.take() {
-        // A program that stops reading early is judged by its text.
-        let _ = input.write_all(book);
-    }
-    let output = child
-        .wait_with_output()
-        .map_err(|why| format!("{path}: {why}"))?;
-    match output.status.code() {
-        Some(_) => Ok(output.stdout),
-        None => Err(format!("{path} was ended by a signal: {}", output.status)),
-    }
 }

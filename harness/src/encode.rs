@@ -1,6 +1,6 @@
 //! Records written from their fields.
 
-use crate::record::RECORD;
+use crate::record::{Kind, RECORD};
 
 pub type Record = [u8; RECORD];
 
@@ -12,7 +12,7 @@ pub fn put(record: &mut [u8], first: usize, last: usize, value: u64) {
 
 pub fn class(parent: u64, points: u64, share: u64) -> Record {
     let mut record = [0; RECORD];
-    record[0] = b'C';
+    record[0] = Kind::Class.letter();
     put(&mut record, 2, 3, parent);
     put(&mut record, 4, 5, points);
     put(&mut record, 6, 7, share);
@@ -22,7 +22,7 @@ pub fn class(parent: u64, points: u64, share: u64) -> Record {
 /// The four amounts are fixing today, fixing before, Par and Adj.
 pub fn instrument(product: u64, class: u64, days: u64, amounts: [u64; 4]) -> Record {
     let mut record = [0; RECORD];
-    record[0] = b'I';
+    record[0] = Kind::Instrument.letter();
     put(&mut record, 1, 1, product);
     put(&mut record, 2, 3, class);
     put(&mut record, 4, 5, days);
@@ -34,7 +34,7 @@ pub fn instrument(product: u64, class: u64, days: u64, amounts: [u64; 4]) -> Rec
 
 pub fn position(side: u64, instrument: u64, quantity: u64, price: u64, traded: u64) -> Record {
     let mut record = [0; RECORD];
-    record[0] = b'P';
+    record[0] = Kind::Position.letter();
     put(&mut record, 1, 1, side);
     put(&mut record, 2, 3, instrument);
     put(&mut record, 4, 7, quantity);

@@ -2,7 +2,9 @@
 
 use crate::encode::{self, put};
 use crate::random::Random;
-use crate::record::{field, limits, RECORD, ROOT};
+use crate::record::{
+    field, form, limits, number_named, Form, Kind, KINDS, RECORD, REFERENCE, ROOT,
+};
 
 pub fn damage(random: &mut Random, book: &mut Vec<u8>) {
     // Two faults in one book show which refusal comes first.
@@ -32,12 +34,17 @@ fn one_fault(random: &mut Random, book: &mut Vec<u8>) {
 }
 
 /// The numbers of the records of a kind.
-fn of_kind(book: &[u8], letter: u8) -> Vec<usize> {
+fn of_kind(book: &[u8], kind: Kind) -> Vec<usize> {
     let records = book.chunks_exact(RECORD).enumerate();
     records
-        .filter(|(_, record)| record[0] == letter)
+        .filter(|(_, record)| record[0] == kind.letter())
         .map(|(number, _)| number)
         .collect()
+}
+
+/// A record of no kind is damaged further as a position would be.
+fn form_of(book: &[u8], number: usize) -> &'static Form {
+    form(book[number * RECORD]).unwrap_or(Kind::Position.form())
 }
 
 fn record(book: &mut [u8], number: usize) -> &mut [u8] {
@@ -74,9 +81,9 @@ fn misplaced(random: &mut Random, book: &mut Vec<u8>) {
 
 /// Records of one kind up to the limit, or past it.
 fn many(random: &mut Random, book: &mut Vec<u8>) {
-    let (letter, limit) = random.pick(&[(b'C', 24), (b'I', 64), (b'P', 256)]);
-    let wanted = limit + random.pick(&[0, 1, 1, 2, 130]);
-    let there = of_kind(book, letter);
+    let form = random.pick(&KINDS.each_ref());
+    let wanted = form.most + random.pick(&[0, 1, 1, 2, 130]);
+    let there = of_kind(book, form.kind);
     let Some(&last) = there.last() else {
         return;
     };
@@ -89,11 +96,11 @@ fn many(random: &mut Random, book: &mut Vec<u8>) {
 /// First and last byte of a field, and its lowest and highest value.
 type Field = (usize, usize, u64, u64);
 
-fn fields(book: &[u8], number: usize) -> Vec<Field> {
+fn fields(book: &[u8], kind: Kind, number: usize) -> Vec<Field> {
     let record = &book[number * RECORD..(number + 1) * RECORD];
-    match record[0] {
-        b'C' => vec![(4, 5, 3, 201), (6, 7, 0, 10_000)],
-        b'I' => {
+    match kind {
+        Kind::Class => vec![(4, 5, 3, 201), (6, 7, 0, 10_000)],
+        Kind::Instrument => {
             let Some(limits) = limits(field(record, 1, 1)) else {
                 return vec![(1, 1, 1, 3)];
             };
@@ -106,20 +113,19 @@ fn fields(book: &[u8], number: usize) -> Vec<Field> {
                 (20, 23, 0, limits.adj),
             ]
         }
-        b'P' => vec![
+        Kind::Position => vec![
             (1, 1, 1, 2),
             (4, 7, 1, 1_000_000),
             (8, 11, 0, highest_price(book, record)),
             (12, 12, 0, 1),
         ],
-        _ => vec![(0, 0, 67, 67)],
     }
 }
 
 /// The end of the contracted price depends on the instrument's product.
 fn highest_price(book: &[u8], position: &[u8]) -> u64 {
-    let instruments = of_kind(book, b'I');
-    let named = field(position, 2, 3) as usize;
+    let instruments = of_kind(book, Kind::Instrument);
+    let named = number_named(position) as usize;
     let product = instruments
         .get(named)
         .map_or(2, |&number| u64::from(book[number * RECORD + 1]));
@@ -128,13 +134,14 @@ fn highest_price(book: &[u8], position: &[u8]) -> u64 {
 
 /// One field at either end, one past either end, or with its high bits set.
 fn edge(random: &mut Random, book: &mut [u8]) {
-    let letter = random.pick(b"CIIPP");
-    let there = of_kind(book, letter);
+    use Kind::{Class, Instrument, Position};
+    let kind = random.pick(&[Class, Instrument, Instrument, Position, Position]);
+    let there = of_kind(book, kind);
     if there.is_empty() {
         return;
     }
     let number = random.pick(&there);
-    let (first, last, low, high) = random.pick(&fields(book, number));
+    let (first, last, low, high) = random.pick(&fields(book, kind, number));
     let top = 1u64 << (8 * (last - first + 1) - 1);
     let value = match random.below(8) {
         0 => low,
@@ -147,7 +154,7 @@ fn edge(random: &mut Random, book: &mut [u8]) {
     let record = record(book, number);
     put(record, first, last, value);
     // A contracted price at its end needs a position traded today.
-    if letter == b'P' && first == 8 && random.chance(80) {
+    if kind == Position && first == 8 && random.chance(80) {
         put(record, 12, 12, 1);
     }
 }
@@ -166,7 +173,7 @@ fn length(random: &mut Random, book: &mut Vec<u8>) {
             let position = encode::position(1, 0, 1, 0, 0);
             book.extend(position.repeat(records));
             if random.chance(50) {
-                book.push(b'P');
+                book.push(Kind::Position.letter());
             }
         }
     }
@@ -174,11 +181,8 @@ fn length(random: &mut Random, book: &mut Vec<u8>) {
 
 fn reserved(random: &mut Random, book: &mut [u8]) {
     let number = any_record(random, book);
-    let bytes: Vec<usize> = match book[number * RECORD] {
-        b'C' => (1..2).chain(8..32).collect(),
-        b'I' => (6..8).chain(24..32).collect(),
-        _ => (13..32).collect(),
-    };
+    let runs = form_of(book, number).reserved.iter();
+    let bytes: Vec<usize> = runs.flat_map(|&(first, last)| first..=last).collect();
     let ends = [bytes[0], bytes[1], bytes[2], bytes[bytes.len() - 1]];
     let at = if random.chance(50) {
         random.pick(&ends)
@@ -190,25 +194,19 @@ fn reserved(random: &mut Random, book: &mut [u8]) {
 
 fn reference(random: &mut Random, book: &mut [u8]) {
     let number = any_record(random, book);
-    let classes = of_kind(book, b'C');
-    let instruments = of_kind(book, b'I').len();
-    let end = match book[number * RECORD] {
-        // A class may not name itself.
-        b'C' => classes
-            .iter()
-            .position(|&class| class == number)
-            .unwrap_or(0),
-        b'I' => classes.len(),
-        _ => instruments,
-    } as u64;
+    let names = form_of(book, number).names;
+    let named = of_kind(book, names);
+    // A class may not name itself.
+    let itself = named.iter().position(|&class| class == number);
+    let end = itself.unwrap_or(named.len()) as u64;
     let beyond = random.between(end, end + 3);
     let named = random.pick(&[end, end, beyond, 65_534, ROOT, end + 256]);
-    put(record(book, number), 2, 3, named);
+    put(record(book, number), REFERENCE.0, REFERENCE.1, named);
 }
 
 /// Points that differ in one class, or points at and past their ends in all.
 fn points(random: &mut Random, book: &mut [u8]) {
-    let classes = of_kind(book, b'C');
+    let classes = of_kind(book, Kind::Class);
     if classes.is_empty() {
         return;
     }
@@ -227,14 +225,15 @@ fn points(random: &mut Random, book: &mut [u8]) {
 
 /// Side, product, traded and the price of a carried position.
 fn small_field(random: &mut Random, book: &mut [u8]) {
-    let letter = random.pick(b"IPPP");
-    let there = of_kind(book, letter);
+    use Kind::{Instrument, Position};
+    let kind = random.pick(&[Instrument, Position, Position, Position]);
+    let there = of_kind(book, kind);
     if there.is_empty() {
         return;
     }
     let number = random.pick(&there);
     let record = record(book, number);
-    if letter == b'I' {
+    if kind == Instrument {
         // Another product without another days: the days decide.
         return record[1] = random.pick(&[0, 1, 2, 3, 4, 255]);
     }
@@ -253,9 +252,13 @@ fn small_field(random: &mut Random, book: &mut [u8]) {
     }
 }
 
-/// A letter that is none, or that of another kind.
+/// Letters of no kind, some next to a kind's.
+const NO_KIND: [u8; 7] = [0, b'c', b'i', b'D', b'Q', b'B', 255];
+
+/// A letter of no kind, or that of another kind.
 fn letter(random: &mut Random, book: &mut [u8]) {
     let number = any_record(random, book);
-    record(book, number)[0] =
-        random.pick(&[0, b'c', b'i', b'D', b'Q', b'B', 255, b'C', b'I', b'P']);
+    let mut letters = NO_KIND.to_vec();
+    letters.extend(KINDS.iter().map(|form| form.letter));
+    record(book, number)[0] = random.pick(&letters);
 }

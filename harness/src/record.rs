@@ -2,9 +2,93 @@
 
 pub const RECORD: usize = 32;
 pub const ROOT: u64 = 65_535;
-pub const MOST_CLASSES: usize = 24;
-pub const MOST_INSTRUMENTS: usize = 64;
-pub const MOST_POSITIONS: usize = 256;
+
+#[derive(Clone, Copy, Debug, PartialEq, Eq)]
+pub enum Kind {
+    Class,
+    Instrument,
+    Position,
+}
+
+/// First and last byte, both counted.
+pub type Bytes = (usize, usize);
+
+/// What the paper says of a kind's records, apart from their fields' ranges.
+pub struct Form {
+    pub kind: Kind,
+    pub letter: u8,
+    /// Kinds stand in a book by rising rank, whatever their letters.
+    pub rank: usize,
+    /// At most so many in a book.
+    pub most: usize,
+    pub reserved: &'static [Bytes],
+    /// All but the letter.
+    pub fields: &'static [Bytes],
+    /// The kind that the reference is to.
+    pub names: Kind,
+    pub words: &'static str,
+}
+
+/// The bytes of the reference, in every kind.
+pub const REFERENCE: Bytes = (2, 3);
+
+/// One row a kind.
+pub const KINDS: [Form; 3] = [
+    Form {
+        kind: Kind::Class,
+        letter: b'C',
+        rank: 0,
+        most: 24,
+        reserved: &[(1, 1), (8, 31)],
+        fields: &[REFERENCE, (4, 5), (6, 7)],
+        names: Kind::Class,
+        words: "a class",
+    },
+    Form {
+        kind: Kind::Instrument,
+        letter: b'I',
+        rank: 1,
+        most: 64,
+        reserved: &[(6, 7), (24, 31)],
+        fields: &[
+            (1, 1),
+            REFERENCE,
+            (4, 5),
+            (8, 11),
+            (12, 15),
+            (16, 19),
+            (20, 23),
+        ],
+        names: Kind::Class,
+        words: "an instrument",
+    },
+    Form {
+        kind: Kind::Position,
+        letter: b'P',
+        rank: 2,
+        most: 256,
+        reserved: &[(13, 31)],
+        fields: &[(1, 1), REFERENCE, (4, 7), (8, 11), (12, 12)],
+        names: Kind::Instrument,
+        words: "a position",
+    },
+];
+
+impl Kind {
+    pub fn form(self) -> &'static Form {
+        let row = KINDS.iter().find(|form| form.kind == self);
+        row.expect("each kind has its row")
+    }
+
+    pub fn letter(self) -> u8 {
+        self.form().letter
+    }
+}
+
+/// The form of a letter's records; none for a letter of no kind.
+pub fn form(letter: u8) -> Option<&'static Form> {
+    KINDS.iter().find(|form| form.letter == letter)
+}
 
 pub struct Class {
     pub parent: Option<usize>,
@@ -41,6 +125,24 @@ impl Book {
     /// All classes have the same points; a book without classes has none.
     pub fn points(&self) -> usize {
         self.classes.first().map_or(0, |class| class.points)
+    }
+
+    pub fn count(&self, kind: Kind) -> usize {
+        match kind {
+            Kind::Class => self.classes.len(),
+            Kind::Instrument => self.instruments.len(),
+            Kind::Position => self.positions.len(),
+        }
+    }
+
+    /// Entries of the rows buffer: one row a class.
+    pub fn rows_len(&self) -> usize {
+        self.classes.len() * self.points()
+    }
+
+    /// Entries of the choice buffer: one point a class, then one an instrument.
+    pub fn choice_len(&self) -> usize {
+        self.classes.len() + self.instruments.len()
     }
 }
 
@@ -82,6 +184,11 @@ pub fn field(record: &[u8], first: usize, last: usize) -> u64 {
     value
 }
 
+/// The number of the record that this one names.
+pub fn number_named(record: &[u8]) -> u64 {
+    field(record, REFERENCE.0, REFERENCE.1)
+}
+
 pub fn decode(bytes: &[u8]) -> Result<Book, Refusal> {
     let whole = bytes.len() / RECORD;
     if !bytes.len().is_multiple_of(RECORD) {
@@ -91,87 +198,59 @@ pub fn decode(bytes: &[u8]) -> Result<Book, Refusal> {
         });
     }
     let mut book = Book::default();
-    let mut letter_before = b'C';
-    for number in 0..whole {
-        let record = &bytes[number * RECORD..(number + 1) * RECORD];
-        let code = refusal_code(record, letter_before, &book);
-        if code != 0 {
-            return Err(Refusal {
-                code,
-                place: number as u64,
-            });
-        }
-        add(&mut book, record);
-        letter_before = record[0];
+    let mut rank_before = 0;
+    for (number, record) in bytes.chunks_exact(RECORD).enumerate() {
+        let form = sound_form(record, rank_before, &book).map_err(|code| Refusal {
+            code,
+            place: number as u64,
+        })?;
+        add(&mut book, form.kind, record);
+        rank_before = form.rank;
     }
     Ok(book)
 }
 
-/// The first of codes 2 to 8 that fits the record, or 0.
-fn refusal_code(record: &[u8], letter_before: u8, book: &Book) -> u64 {
-    let letter = record[0];
-    if letter != b'C' && letter != b'I' && letter != b'P' {
-        return 2;
+/// The record's form, or the first of codes 2 to 8 that fits it.
+fn sound_form(record: &[u8], rank_before: usize, book: &Book) -> Result<&'static Form, u64> {
+    let form = form(record[0]).ok_or(2u64)?;
+    if form.rank < rank_before {
+        return Err(3);
     }
-    // The letters stand in the alphabet as the kinds stand in the book.
-    if letter < letter_before {
-        return 3;
+    if book.count(form.kind) == form.most {
+        return Err(4);
     }
-    if is_full(letter, book) {
-        return 4;
+    if !reserved_is_zero(form, record) {
+        return Err(5);
     }
-    if !reserved_is_zero(record) {
-        return 5;
+    if !reference_is_good(form, record, book) {
+        return Err(6);
     }
-    if !reference_is_good(record, book) {
-        return 6;
+    if !fields_in_range(form.kind, record, book) {
+        return Err(7);
     }
-    if !fields_in_range(record, book) {
-        return 7;
+    if form.kind == Kind::Class && !points_agree(record, book) {
+        return Err(8);
     }
-    if letter == b'C' && !book.classes.is_empty() && field(record, 4, 5) != book.points() as u64 {
-        return 8;
-    }
-    0
+    Ok(form)
 }
 
-fn is_full(letter: u8, book: &Book) -> bool {
-    match letter {
-        b'C' => book.classes.len() == MOST_CLASSES,
-        b'I' => book.instruments.len() == MOST_INSTRUMENTS,
-        _ => book.positions.len() == MOST_POSITIONS,
-    }
-}
-
-fn reserved_is_zero(record: &[u8]) -> bool {
-    for (at, &byte) in record.iter().enumerate() {
-        let named = match record[0] {
-            b'C' => at == 0 || (2..=7).contains(&at),
-            b'I' => at <= 5 || (8..=23).contains(&at),
-            _ => at <= 12,
-        };
-        if !named && byte != 0 {
-            return false;
-        }
-    }
-    true
+fn reserved_is_zero(form: &Form, record: &[u8]) -> bool {
+    let mut runs = form.reserved.iter();
+    runs.all(|&(first, last)| record[first..=last].iter().all(|&byte| byte == 0))
 }
 
 /// A class names a smaller class or none; the others name a record before them.
-fn reference_is_good(record: &[u8], book: &Book) -> bool {
-    let named = field(record, 2, 3);
-    match record[0] {
-        b'C' => named == ROOT || named < book.classes.len() as u64,
-        b'I' => named < book.classes.len() as u64,
-        _ => named < book.instruments.len() as u64,
-    }
+fn reference_is_good(form: &Form, record: &[u8], book: &Book) -> bool {
+    let named = number_named(record);
+    let is_root = form.kind == Kind::Class && named == ROOT;
+    is_root || named < book.count(form.names) as u64
 }
 
-fn fields_in_range(record: &[u8], book: &Book) -> bool {
-    match record[0] {
-        b'C' => class_in_range(record),
-        b'I' => instrument_in_range(record),
-        _ => position_in_range(record, book),
+fn fields_in_range(kind: Kind, record: &[u8], book: &Book) -> bool {
+    match kind {
+        Kind::Class => class_in_range(record),
+        Kind::Instrument => instrument_in_range(record),
+        Kind::Position => position_in_range(record, book),
     }
 }
 
@@ -199,7 +278,7 @@ fn position_in_range(record: &[u8], book: &Book) -> bool {
     let quantity = field(record, 4, 7);
     let price = field(record, 8, 11);
     let traded = field(record, 12, 12);
-    let product = book.instruments[field(record, 2, 3) as usize].product;
+    let product = book.instruments[number_named(record) as usize].product;
     let highest = limits(product).map_or(0, |limits| limits.price);
     (side == 1 || side == 2)
         && (1..=1_000_000).contains(&quantity)
@@ -207,31 +286,31 @@ fn position_in_range(record: &[u8], book: &Book) -> bool {
         && (traded == 1 || (traded == 0 && price == 0))
 }
 
-fn add(book: &mut Book, record: &[u8]) {
+fn points_agree(record: &[u8], book: &Book) -> bool {
+    book.classes.is_empty() || field(record, 4, 5) == book.points() as u64
+}
+
+fn add(book: &mut Book, kind: Kind, record: &[u8]) {
     let number = |first, last| i128::from(field(record, first, last));
-    let named = field(record, 2, 3);
-    match record[0] {
-        b'C' => book.classes.push(Class {
-            parent: if named == ROOT {
-                None
-            } else {
-                Some(named as usize)
-            },
+    let named = number_named(record) as usize;
+    match kind {
+        Kind::Class => book.classes.push(Class {
+            parent: (named as u64 != ROOT).then_some(named),
             points: field(record, 4, 5) as usize,
             share: field(record, 6, 7),
         }),
-        b'I' => book.instruments.push(Instrument {
+        Kind::Instrument => book.instruments.push(Instrument {
             product: field(record, 1, 1),
-            class: named as usize,
+            class: named,
             days: number(4, 5),
             today: number(8, 11),
             before: number(12, 15),
             par: number(16, 19),
             adj: number(20, 23),
         }),
-        _ => book.positions.push(Position {
+        Kind::Position => book.positions.push(Position {
             sold: field(record, 1, 1) == 2,
-            instrument: named as usize,
+            instrument: named,
             quantity: number(4, 7),
             price: number(8, 11),
             traded_today: field(record, 12, 12) == 1,

@@ -1,6 +1,9 @@
 //! The second program: the margin calculation in its plainest form.
 
-use crate::record::{decode, Book, Instrument, Position, Refusal, RECORD};
+use std::cmp::Ordering;
+
+use crate::ore::Ore;
+use crate::record::{decode, form, Book, Instrument, Position, Refusal, RECORD};
 
 #[derive(Clone, Debug, Default, PartialEq, Eq)]
 pub struct Outcome {
@@ -46,10 +49,10 @@ pub fn run(bytes: &[u8], rows_len: usize, choice_len: usize) -> Outcome {
         Ok(book) => book,
         Err(Refusal { code, place }) => return Outcome::refused(code, place),
     };
-    if rows_len < book.classes.len() * book.points() {
+    if rows_len < book.rows_len() {
         return Outcome::refused(9, whole);
     }
-    if choice_len < book.classes.len() + book.instruments.len() {
+    if choice_len < book.choice_len() {
         return Outcome::refused(10, whole);
     }
     accepted(&book)
@@ -58,42 +61,57 @@ pub fn run(bytes: &[u8], rows_len: usize, choice_len: usize) -> Outcome {
 fn accepted(book: &Book) -> Outcome {
     let vectors = vectors(book);
     let rows = class_rows(book, &vectors);
-    let mut mark = 0;
-    for position in &book.positions {
-        mark += mark_to_market(position, &book.instruments[position.instrument]);
+    Outcome {
+        code: 0,
+        place: 0,
+        mark: marks(book).number(),
+        naked: naked(&vectors).number(),
+        cross: cross(book, &rows).number(),
+        rows: rows.concat().into_iter().map(Ore::number).collect(),
+        choice: choice(book, &rows, &vectors),
     }
-    let mut naked = 0;
-    for vector in &vectors {
+}
+
+fn marks(book: &Book) -> Ore {
+    let mut marks = Ore::ZERO;
+    for position in &book.positions {
+        marks += mark_to_market(position, &book.instruments[position.instrument]);
+    }
+    marks
+}
+
+fn naked(vectors: &[Vec<Ore>]) -> Ore {
+    let mut naked = Ore::ZERO;
+    for vector in vectors {
         naked += lowest_entry(vector);
     }
-    let mut cross = 0;
+    naked
+}
+
+/// The sum of the roots' lowest results.
+fn cross(book: &Book, rows: &[Vec<Ore>]) -> Ore {
+    let mut cross = Ore::ZERO;
     for (number, class) in book.classes.iter().enumerate() {
         if class.parent.is_none() {
             cross += lowest_entry(&rows[number]);
         }
     }
-    let choice = choice(book, &rows, &vectors);
-    let mark = whole_ore(mark);
-    Outcome {
-        code: 0,
-        place: 0,
-        mark,
-        naked,
-        cross,
-        rows: rows.concat(),
-        choice,
-    }
+    cross
 }
 
-/// The paper's limits keep every total inside a signed 64-bit number.
-fn whole_ore(value: i128) -> i64 {
-    i64::try_from(value).expect("an amount left the signed 64-bit numbers")
-}
-
-/// To the nearest whole number, halves away from zero.
+/// To the nearest whole number, halves away from zero: of the whole numbers on either side the nearer one, of two equally
+/// near ones the farther from zero.
 pub fn rounded(numerator: i128, denominator: i128) -> i128 {
-    let size = (2 * numerator.abs() + denominator) / (2 * denominator);
-    size * numerator.signum()
+    let below = numerator.div_euclid(denominator);
+    let above = below + 1;
+    let past_below = numerator - below * denominator;
+    let short_of_above = above * denominator - numerator;
+    match past_below.cmp(&short_of_above) {
+        Ordering::Less => below,
+        Ordering::Greater => above,
+        Ordering::Equal if above.abs() > below.abs() => above,
+        Ordering::Equal => below,
+    }
 }
 
 fn signed(position: &Position) -> i128 {
@@ -111,9 +129,9 @@ pub fn net(book: &Book, item: usize) -> i128 {
     net
 }
 
-pub fn amount(instrument: &Instrument, net: i128, points: usize, point: usize) -> i64 {
+pub fn amount(instrument: &Instrument, net: i128, points: usize, point: usize) -> Ore {
     if net == 0 {
-        return 0;
+        return Ore::ZERO;
     }
     let m = points as i128 - 1;
     let s = instrument.par * (2 * point as i128 - m);
@@ -126,10 +144,10 @@ pub fn amount(instrument: &Instrument, net: i128, points: usize, point: usize) -
         2 => 25 * rounded(-turned - adjustment, 100 * m),
         _ => rounded(instrument.today * (turned - adjustment), 1_000_000 * m),
     };
-    whole_ore(one * net.abs())
+    Ore::whole(one * net.abs())
 }
 
-pub fn mark_to_market(position: &Position, instrument: &Instrument) -> i128 {
+pub fn mark_to_market(position: &Position, instrument: &Instrument) -> Ore {
     let from = if position.traded_today {
         position.price
     } else {
@@ -141,7 +159,7 @@ pub fn mark_to_market(position: &Position, instrument: &Instrument) -> i128 {
         2 => rounded(d, 4),
         _ => d,
     };
-    one * signed(position)
+    Ore::whole(one * signed(position))
 }
 
 /// The smallest odd number not below share times points / 10,000.
@@ -158,7 +176,7 @@ pub fn reach(book: &Book, class: usize) -> usize {
 }
 
 /// Each instrument's amounts, point by point.
-pub fn vectors(book: &Book) -> Vec<Vec<i64>> {
+pub fn vectors(book: &Book) -> Vec<Vec<Ore>> {
     let mut vectors = Vec::new();
     for (item, instrument) in book.instruments.iter().enumerate() {
         let net = net(book, item);
@@ -179,7 +197,7 @@ pub fn window(point: usize, reach: usize, points: usize) -> (usize, usize) {
     (first, last)
 }
 
-pub fn lowest_entry(entries: &[i64]) -> i64 {
+pub fn lowest_entry(entries: &[Ore]) -> Ore {
     let mut lowest = entries[0];
     for &entry in entries {
         if entry < lowest {
@@ -190,7 +208,7 @@ pub fn lowest_entry(entries: &[i64]) -> i64 {
 }
 
 /// The lowest-numbered point with the lowest entry from first to last.
-pub fn lowest_point(entries: &[i64], first: usize, last: usize) -> usize {
+pub fn lowest_point(entries: &[Ore], first: usize, last: usize) -> usize {
     let mut lowest = first;
     for point in first..=last {
         if entries[point] < entries[lowest] {
@@ -201,8 +219,8 @@ pub fn lowest_point(entries: &[i64], first: usize, last: usize) -> usize {
 }
 
 /// One row a class; a child has the larger number, so the last class goes first.
-fn class_rows(book: &Book, vectors: &[Vec<i64>]) -> Vec<Vec<i64>> {
-    let mut rows = vec![vec![0; book.points()]; book.classes.len()];
+fn class_rows(book: &Book, vectors: &[Vec<Ore>]) -> Vec<Vec<Ore>> {
+    let mut rows = vec![vec![Ore::ZERO; book.points()]; book.classes.len()];
     for class in (0..book.classes.len()).rev() {
         let reach = reach(book, class);
         for point in 0..book.points() {
@@ -216,12 +234,12 @@ fn class_rows(book: &Book, vectors: &[Vec<i64>]) -> Vec<Vec<i64>> {
 /// The sum of each child's lowest entry in the window seen from a point.
 fn result(
     book: &Book,
-    rows: &[Vec<i64>],
-    vectors: &[Vec<i64>],
+    rows: &[Vec<Ore>],
+    vectors: &[Vec<Ore>],
     class: usize,
     (first, last): (usize, usize),
-) -> i64 {
-    let mut sum = 0;
+) -> Ore {
+    let mut sum = Ore::ZERO;
     for (child, row) in rows.iter().enumerate() {
         if book.classes[child].parent == Some(class) {
             sum += lowest_entry(&row[first..=last]);
@@ -236,7 +254,7 @@ fn result(
 }
 
 /// One point a class, then one an instrument; parents choose before children.
-fn choice(book: &Book, rows: &[Vec<i64>], vectors: &[Vec<i64>]) -> Vec<u16> {
+fn choice(book: &Book, rows: &[Vec<Ore>], vectors: &[Vec<Ore>]) -> Vec<u16> {
     let mut choice: Vec<usize> = Vec::new();
     for (number, class) in book.classes.iter().enumerate() {
         choice.push(match class.parent {
@@ -251,7 +269,7 @@ fn choice(book: &Book, rows: &[Vec<i64>], vectors: &[Vec<i64>]) -> Vec<u16> {
     choice.into_iter().map(|point| point as u16).collect()
 }
 
-fn child_point(book: &Book, parent: usize, parent_point: usize, entries: &[i64]) -> usize {
+fn child_point(book: &Book, parent: usize, parent_point: usize, entries: &[Ore]) -> usize {
     let (first, last) = window(parent_point, reach(book, parent), book.points());
     lowest_point(entries, first, last)
 }
@@ -263,7 +281,8 @@ pub fn amount_at(bytes: &[u8], item: usize, point: usize) -> Option<i64> {
     if point >= book.points() {
         return None;
     }
-    Some(amount(instrument, net(&book, item), book.points(), point))
+    let there = amount(instrument, net(&book, item), book.points(), point);
+    Some(there.number())
 }
 
 /// Kroner with two decimals, "-" before negatives only.
@@ -293,4 +312,40 @@ pub fn listing(bytes: &[u8]) -> String {
         }
     }
     text
+}
+
+/// What each code means; the paper's table, in words.
+const MEANINGS: [(u64, &str); 10] = [
+    (1, "the length is not a multiple of 32 bytes"),
+    (2, "its letter is not C, I or P"),
+    (3, "it comes after a record of a later kind"),
+    (4, "one more than a book may have of its kind"),
+    (5, "a reserved byte is not zero"),
+    (6, "what it names does not stand before it"),
+    (7, "a field is out of its range"),
+    (8, "its points differ from class 0's"),
+    (9, "the rows buffer is too short"),
+    (10, "the choice buffer is too short"),
+];
+
+/// The listing's line on standard error: the refusal in words, or nothing for an accepted book.
+pub fn complaint(bytes: &[u8]) -> String {
+    let outcome = run(bytes, usize::MAX, usize::MAX);
+    in_words(bytes, outcome.code, outcome.place)
+}
+
+/// A code and place in words, with a line feed; nothing for code 0.
+pub fn in_words(bytes: &[u8], code: u64, place: u64) -> String {
+    if code == 0 {
+        return String::new();
+    }
+    let entry = MEANINGS.iter().find(|(known, _)| *known == code);
+    let (_, meaning) = entry.expect("each code has its meaning");
+    // The place of these is no record but their number.
+    if [1, 9, 10].contains(&code) {
+        return format!("a book of {place} whole records: {meaning}\n");
+    }
+    let letter = bytes[place as usize * RECORD];
+    let kind = form(letter).map_or("of no kind", |form| form.words);
+    format!("record {place}, {kind}: {meaning}\n")
 }

@@ -1,73 +1,138 @@
-//! The static library's one call, asked through a process that answers books over its standard
-//! input and output (`c/server.c`), which runs on whatever processor the library is for.
+//! The static library's calls, asked through a process that answers over its standard input and output (`c/server.c`), which
+//! runs on whatever processor the library is for.
 
-use std::io::{BufReader, BufWriter, Read, Write};
-use std::process::{Child, ChildStdin, ChildStdout, Command, Stdio};
-use std::sync::Mutex;
+use std::io::{self, BufReader, Read, Write};
+use std::process::{Child, ChildStdin, ChildStdout, Command, ExitStatus, Stdio};
 
-/// The command that starts the server, from the environment: the words are divided by spaces.
-const SERVER: &str = "DESK_SERVER";
+/// The word that a question begins with, as in `c/server.c`.
+const RUN: u64 = 1;
 
-struct Server {
+/// The server under test: started at the first question, and anew after one that it gave no answer to.
+pub struct Server {
+    words: Vec<String>,
+    running: Option<Running>,
+}
+
+struct Running {
     child: Child,
-    to: BufWriter<ChildStdin>,
+    to: ChildStdin,
     from: BufReader<ChildStdout>,
 }
 
-static RUNNING: Mutex<Option<Server>> = Mutex::new(None);
+impl Server {
+    /// The command's words are divided by spaces.
+    pub fn start(command: &str) -> Server {
+        Server {
+            words: command.split_whitespace().map(str::to_string).collect(),
+            running: None,
+        }
+    }
 
-/// Code, place, mark-to-market, naked and cross margin; the buffers are lent.
-pub fn run(book: &[u8], rows: &mut [i64], choice: &mut [u16]) -> [i64; 5] {
-    let mut running = RUNNING.lock().expect("no question was torn off");
-    let server = running.get_or_insert_with(start);
-    match ask(server, book, rows, choice) {
-        Ok(numbers) => numbers,
-        Err(why) => panic!("the server under test: {why}, {:?}", server.child.wait()),
+    /// Code, place, mark-to-market, naked and cross margin, or why there is no answer; the buffers are lent.
+    pub fn run(
+        &mut self,
+        book: &[u8],
+        rows: &mut [i64],
+        choice: &mut [u16],
+    ) -> Result<[i64; 5], String> {
+        self.asked(|running| running.run(book, rows, choice))
+    }
+
+    /// A server that gave no answer has ended, or is to: its status says why.
+    fn asked<T>(
+        &mut self,
+        question: impl FnOnce(&mut Running) -> io::Result<T>,
+    ) -> Result<T, String> {
+        let mut running = match self.running.take() {
+            Some(running) => running,
+            None => started(&self.words)?,
+        };
+        match question(&mut running) {
+            Ok(answer) => {
+                self.running = Some(running);
+                Ok(answer)
+            }
+            Err(why) => Err(match running.ended() {
+                Ok(status) => format!("no answer of the server, {why}: {status}"),
+                Err(unknown) => format!("no answer of the server, {why}: {unknown}"),
+            }),
+        }
     }
 }
 
-fn start() -> Server {
-    let command = std::env::var(SERVER).unwrap_or_else(|_| panic!("{SERVER} names no server"));
-    let mut words = command.split_whitespace();
-    let mut child = Command::new(words.next().expect("a server has a name"))
-        .args(words)
+impl Drop for Server {
+    fn drop(&mut self) {
+        if let Some(running) = self.running.take() {
+            let _ = running.ended();
+        }
+    }
+}
+
+fn started(words: &[String]) -> Result<Running, String> {
+    let (name, rest) = words.split_first().ok_or("the server has no name")?;
+    let start = Command::new(name)
+        .args(rest)
         .stdin(Stdio::piped())
         .stdout(Stdio::piped())
-        .spawn()
-        .unwrap_or_else(|why| panic!("{command}: {why}"));
-    let to = BufWriter::new(child.stdin.take().expect("its input is piped"));
+        .spawn();
+    let mut child = start.map_err(|why| format!("{name} does not start: {why}"))?;
+    let to = child.stdin.take().expect("its input is piped");
     let from = BufReader::new(child.stdout.take().expect("its output is piped"));
-    Server { child, to, from }
+    Ok(Running { child, to, from })
 }
 
-fn ask(
-    server: &mut Server,
-    book: &[u8],
-    rows: &mut [i64],
-    choice: &mut [u16],
-) -> std::io::Result<[i64; 5]> {
-    for len in [book.len(), rows.len(), choice.len()] {
-        server.to.write_all(&(len as u64).to_le_bytes())?;
+impl Running {
+    fn run(&mut self, book: &[u8], rows: &mut [i64], choice: &mut [u16]) -> io::Result<[i64; 5]> {
+        self.to.write_all(&question(book, rows, choice))?;
+        let mut numbers = [0; 5];
+        self.take_numbers(&mut numbers)?;
+        self.take_numbers(rows)?;
+        self.take_points(choice)?;
+        Ok(numbers)
     }
-    server.to.write_all(book)?;
-    for entry in rows.iter() {
-        server.to.write_all(&entry.to_le_bytes())?;
+
+    fn take_numbers(&mut self, numbers: &mut [i64]) -> io::Result<()> {
+        for number in numbers {
+            *number = i64::from_le_bytes(taken(&mut self.from)?);
+        }
+        Ok(())
     }
-    for entry in choice.iter() {
-        server.to.write_all(&entry.to_le_bytes())?;
+
+    fn take_points(&mut self, points: &mut [u16]) -> io::Result<()> {
+        for point in points {
+            *point = u16::from_le_bytes(taken(&mut self.from)?);
+        }
+        Ok(())
     }
-    server.to.flush()?;
-    let mut numbers = [0; 5];
-    for number in numbers.iter_mut().chain(rows) {
-        *number = i64::from_le_bytes(bytes(&mut server.from)?);
+
+    /// The end of its input ends the server.
+    fn ended(self) -> io::Result<ExitStatus> {
+        let Running {
+            mut child,
+            to,
+            from,
+        } = self;
+        drop((to, from));
+        child.wait()
     }
-    for entry in choice {
-        *entry = u16::from_le_bytes(bytes(&mut server.from)?);
-    }
-    Ok(numbers)
 }
 
-fn bytes<const N: usize>(from: &mut impl Read) -> std::io::Result<[u8; N]> {
+/// Asks for a run: its word, the three lengths, the book and both buffers as they are lent.
+fn question(book: &[u8], rows: &[i64], choice: &[u16]) -> Vec<u8> {
+    let words = [
+        RUN,
+        book.len() as u64,
+        rows.len() as u64,
+        choice.len() as u64,
+    ];
+    let mut question: Vec<u8> = words.iter().flat_map(|word| word.to_le_bytes()).collect();
+    question.extend(book);
+    question.extend(rows.iter().flat_map(|entry| entry.to_le_bytes()));
+    question.extend(choice.iter().flat_map(|entry| entry.to_le_bytes()));
+    question
+}
+
+fn taken<const N: usize>(from: &mut impl Read) -> io::Result<[u8; N]> {
     let mut bytes = [0; N];
     from.read_exact(&mut bytes)?;
     Ok(bytes)

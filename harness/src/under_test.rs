@@ -2,9 +2,6 @@
 
 /// Code, place, mark-to-market, naked and cross margin; the buffers are lent.
 pub fn run(book: &[u8], rows: &mut [i64], choice: &mut [u16]) -> [i64; 5] {
-    if std::env::var_os("DESK_SERVER").is_some() {
-        return crate::server::run(book, rows, choice);
-    }
     let desk::lent::Answer {
         code,
         place,

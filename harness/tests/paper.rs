@@ -69,6 +69,41 @@ fn roundings() {
     assert_eq!((rounded(-2, 3), rounded(-1, 3), rounded(6, 3)), (-1, 0, 2));
 }
 
+/// The sentence itself: no whole number is nearer, and of two equally near it is the one away from zero.
+fn is_nearest(numerator: i128, denominator: i128, given: i128) -> bool {
+    let away = |whole: i128| (numerator - whole * denominator).abs();
+    let others = [given - 1, given + 1];
+    let is_farther = |other: i128| given.abs() > other.abs();
+    others
+        .into_iter()
+        .all(|other| away(given) < away(other) || (away(given) == away(other) && is_farther(other)))
+}
+
+#[test]
+fn roundings_of_small_fractions() {
+    for denominator in 1..=60 {
+        for numerator in -400..=400 {
+            let given = rounded(numerator, denominator);
+            assert!(
+                is_nearest(numerator, denominator, given),
+                "{numerator}/{denominator}"
+            );
+        }
+    }
+}
+
+/// A half and its neighbours, as large as the paper's limits make them.
+#[test]
+fn roundings_of_large_fractions() {
+    for whole in [-400_000_000_000_007, -1, 0, 1, 400_000_000_000_007] {
+        for (half, less) in [(36_000, -1), (36_000, 0), (36_000, 1), (100_000_000, 0)] {
+            let numerator = 2 * half * whole + half + less;
+            let given = rounded(numerator, 2 * half);
+            assert!(is_nearest(numerator, 2 * half, given), "{numerator}");
+        }
+    }
+}
+
 #[test]
 fn amounts_of_one_contract() {
     let fra = one(31, 1, 91, [3_700_000, 0, 400_000, 20_000], 1);

@@ -1,6 +1,8 @@
 //! Each code, on either side of each limit, and which code comes first.
 
 use harness::encode::{self, put, Record};
+use harness::listing::child;
+use harness::record::{Form, KINDS};
 use harness::second;
 
 /// Two classes, one instrument of each product, a position in each and one more.
@@ -98,6 +100,22 @@ fn reserved_bytes() {
         }
     }
     assert_eq!(free, 25 + 10 + 19);
+}
+
+/// Each byte of a record is the letter, in one field, or reserved; kinds have ranks and letters of their own.
+#[test]
+fn kinds() {
+    for form in &KINDS {
+        let runs = form.fields.iter().chain(form.reserved);
+        let mut bytes: Vec<usize> = runs.flat_map(|&(first, last)| first..=last).collect();
+        bytes.sort_unstable();
+        assert_eq!(bytes, (1..32).collect::<Vec<_>>(), "{}", form.words);
+        let alike = |other: &&Form| {
+            other.rank == form.rank || other.letter == form.letter || other.kind == form.kind
+        };
+        assert_eq!(KINDS.iter().filter(alike).count(), 1);
+    }
+    assert!(KINDS.is_sorted_by_key(|form| form.rank));
 }
 
 #[test]
@@ -213,4 +231,79 @@ fn which_comes_first() {
     assert_eq!(given(&records), (2, 1));
     put(&mut records[0], 6, 7, 10_001);
     assert_eq!(given(&records), (7, 0));
+}
+
+fn words(records: &[Record]) -> String {
+    second::complaint(&records.concat())
+}
+
+/// Record, byte and value that spoil the sound book, and the words for it.
+const SPOILT: [(usize, usize, u64, &str); 9] = [
+    (3, 0, 99, "3, of no kind: its letter is not C, I or P"),
+    (
+        0,
+        0,
+        80,
+        "0, a position: what it names does not stand before it",
+    ),
+    (1, 8, 1, "1, a class: a reserved byte is not zero"),
+    (4, 31, 1, "4, an instrument: a reserved byte is not zero"),
+    (8, 13, 1, "8, a position: a reserved byte is not zero"),
+    (
+        2,
+        2,
+        2,
+        "2, an instrument: what it names does not stand before it",
+    ),
+    (7, 1, 3, "7, a position: a field is out of its range"),
+    (1, 4, 33, "1, a class: its points differ from class 0's"),
+    (2, 0, 67, "2, a class: a reserved byte is not zero"),
+];
+
+#[test]
+fn complaints() {
+    assert_eq!(words(&sound()), "");
+    assert_eq!(second::complaint(&[]), "");
+    let torn = [&sound().concat()[..], &[0; 31]].concat();
+    let length = "a book of 9 whole records: the length is not a multiple of 32 bytes\n";
+    assert_eq!(second::complaint(&torn), length);
+    for (number, at, value, wanted) in SPOILT {
+        let mut records = sound();
+        put(&mut records[number], at, at, value);
+        assert_eq!(words(&records), format!("record {wanted}\n"));
+    }
+}
+
+/// Order and number of records, in words, and the two codes that a listing never has.
+#[test]
+fn complaints_of_order_and_number() {
+    let mut records = sound();
+    records.push(records[2]);
+    let order = "record 9, an instrument: it comes after a record of a later kind\n";
+    assert_eq!(words(&records), order);
+    for (letter, from, last, kind) in [(0, 0, 24, "a class"), (2, 2, 66, "an instrument")] {
+        let copy = sound()[letter];
+        let mut records = sound();
+        records.splice(from..from, vec![copy; 70]);
+        let number = format!("record {last}, {kind}: one more than a book may have of its kind\n");
+        assert_eq!(words(&records), number);
+    }
+    let rows = "a book of 9 whole records: the rows buffer is too short\n";
+    assert_eq!(second::in_words(&sound().concat(), 9, 9), rows);
+    let choice = "a book of 9 whole records: the choice buffer is too short\n";
+    assert_eq!(second::in_words(&sound().concat(), 10, 9), choice);
+}
+
+/// The second program's own listing program: both outputs, and the status after the listing.
+#[test]
+fn listing_status() {
+    let program = env!("CARGO_BIN_EXE_second_listing");
+    let words = ["/bin/sh", "-c", "\"$0\"; echo $?", program];
+    let book = sound().concat();
+    for (book, status) in [(&book[..], 0), (&book[..33], 1)] {
+        let printed = child(&words, book).expect("it was started");
+        let wanted = format!("{}{status}\n", second::listing(book));
+        assert_eq!(printed.text, wanted.as_bytes());
+        assert_eq!(printed.complaint, second::complaint(book).as_bytes());
+    }
 }
