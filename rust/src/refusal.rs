@@ -151,4 +151,13 @@ mod tests {
             assert_eq!(Refusal::of(&[b'I'; crate::RECORD], code, 0).kind(), None);
         }
     }
+
+    #[test]
+    fn the_readme_has_the_same_words() {
+        let readme = include_str!("../../README.md");
+        for code in 1..=10 {
+            let row = format!("\n| {code} | {} | ", Refusal::of(&[], code, 0).meaning());
+            assert!(readme.contains(&row), "{row}");
+        }
+    }
 }
