@@ -8,7 +8,7 @@ use lib.ListN.{length, take, drop}
 use Rattle.paper.specs.declared.Shape.{Shape}
 use Rattle.paper.specs.declared.Totals.{Totals}
 use Rattle.paper.specs.declared.Fault.the-variants.{Length}
-use Rattle.paper.specs.Records.{recordBytes}
+use Rattle.paper.specs.Records.{recordBytes, wholeRecords, kindAt}
 use Rattle.paper.specs.Refusals.{mostClasses, mostInstruments}
 use Rattle.paper.specs.Answers.{codeOf, classPoint}
 use Rattle.paper.specs.Listing.{decimal, kroner, line, lines, CLASS, ITEM, REFUSED, keptBytes, totalLines, listingOf}
@@ -68,3 +68,7 @@ pub record ReadWhole (buffer : List ℕ) (read : Input) : Type 0 where
   pub first : read .kept ≡ min keptBytes (read .whole)
   pub over : read .going ≡ false
   pub ended : read .failed ≡ false
+
+-- the kind of a record that was kept, and none of any other
+abbrev pub kindKept : List ℕ → ℕ → ℕ
+kindKept b r = cond (ltb r (wholeRecords b)) (kindAt b r) 0

@@ -1,8 +1,9 @@
 // The evening listing of the book on standard input: it is read, its listing is worked out once and handed over in one call. A
 // refusal is said in words too, on standard error.
+ghost use mathlib.Core.Path.{_≡_};
 ghost use Prim.Native.Nat.{_≤_};
 ghost use Rattle.text.specs.Text.{room};
-ghost use Rattle.listing.specs.Page.{ReadWhole};
+ghost use Rattle.listing.specs.Page.{ReadWhole, kindKept};
 use intake::Input;
 use libc::STDERR_FILENO;
 use libc::STDOUT_FILENO;
@@ -21,7 +22,9 @@ fn shown(buffer: &[u8], read: Input) -> bool
 }
 
 // The kind of a record that was kept, and none of any other.
-fn kind_of(buffer: &[u8], place: usize) -> u8 {
+fn kind_of(buffer: &[u8], place: usize) -> u8
+    ensures { λ r. ⌜ r ≡ kindKept (now (buffer .entry)) place ⌝ }
+{
     if place < buffer.len() / 32 {
         record::kind_at(buffer, place)
     } else {
