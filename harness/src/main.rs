@@ -148,6 +148,9 @@ where
         books,
         threads,
     } = options.range;
+    if books == 0 {
+        return Err("no book to compare".to_string());
+    }
     println!("seed {seed}, {books} books from index {first}, {threads} threads, through {through}");
     let start = Instant::now();
     match compare::books(options.range, &judge) {

@@ -39,6 +39,7 @@ impl Figures {
             .take(count(book, Kind::Instrument));
         let instrument_points = instruments.copied().collect();
         rows.truncate(classes.saturating_mul(points));
+        rows.shrink_to_fit();
         choice.truncate(classes);
         Self {
             totals,

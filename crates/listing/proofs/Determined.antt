@@ -8,6 +8,7 @@ use Rattle.margin.proofs.Counted.{by-book}
 use Rattle.listing.specs.declared.page.Page.the-variants.{Written}
 use Rattle.listing.proofs.page.listing.Reads as listing-reads
 use Rattle.listing.proofs.page.whole_listing.Reads as whole-listing-reads
+use Rattle.listing.proofs.page.reason.Reads as reason-reads
 
 page : OneResult listing-reads.Post
 page κs a x y e f p q =
@@ -35,3 +36,7 @@ whole-out κs a x y e f p q =
     by-book (take (a .1 .0 .kept) (now (a .0))) (a .1 .0 .whole)
     (λ b of. coincide (p .of-book b of .holds) (q .of-book b of .holds))
     (λ none. coincide (p .of-none none .holds) (q .of-none none .holds))
+
+reason : OneResult reason-reads.Post
+reason κs a x y e f p q =
+    by-book (now (a .0)) (a .1 .0) (λ b of. coincide (p .of-book b of) (q .of-book b of)) (λ none. coincide (p .of-none none) (q .of-none none))

@@ -8,10 +8,15 @@ use lib.ListN.{length, take, drop}
 use Rattle.paper.specs.declared.Shape.{Shape}
 use Rattle.paper.specs.declared.Totals.{Totals}
 use Rattle.paper.specs.declared.Fault.the-variants.{Length}
+use Rattle.paper.specs.declared.Verdict.{Verdict}
+use Rattle.paper.specs.declared.Verdict.the-variants.{Sound, Refused}
 use Rattle.paper.specs.Records.{recordBytes, wholeRecords, kindAt}
-use Rattle.paper.specs.Refusals.{mostClasses, mostInstruments}
+use Rattle.paper.specs.Refusals.{mostClasses, mostInstruments, verdictOf}
 use Rattle.paper.specs.Answers.{codeOf, classPoint}
 use Rattle.paper.specs.Listing.{decimal, kroner, line, lines, CLASS, ITEM, REFUSED, keptBytes, totalLines, listingOf}
+use Rattle.text.specs.declared.Text.{Text}
+use Rattle.text.specs.Text.{right}
+use Rattle.words.specs.Words.{refusalLine}
 use Rattle.intake.specs.declared.Input.{Input}
 use Rattle.margin.specs.declared.Item.{Item}
 use Rattle.margin.specs.declared.Item.the-variants.{Amount, Nothing}
@@ -72,3 +77,13 @@ pub record ReadWhole (buffer : List ℕ) (read : Input) : Type 0 where
 -- the kind of a record that was kept, and none of any other
 abbrev pub kindKept : List ℕ → ℕ → ℕ
 kindKept b r = cond (ltb r (wholeRecords b)) (kindAt b r) 0
+
+-- what is said of a verdict, over the records that were kept: a refusal in words, of a sound book nothing
+abbrev pub said : List ℕ → Verdict → List ℕ
+said kept (Sound s) = []
+said kept (Refused f place) = refusalLine f place (kindKept kept place)
+
+-- of every book that was so kept and counted the text is of its verdict; what is of no book is a faulty length
+abbrev pub Explained : List ℕ → ℕ → Text → Type 0
+Explained kept size t =
+    Counted kept size (λ b. t ≡ right (said kept (verdictOf b))) (t ≡ right (said kept (Refused Length (size / recordBytes))))

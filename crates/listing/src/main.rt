@@ -1,13 +1,11 @@
 // The evening listing of the book on standard input: it is read, its listing is worked out once and handed over in one call. A
 // refusal is said in words too, on standard error.
-ghost use mathlib.Core.Path.{_≡_};
 ghost use Prim.Native.Nat.{_≤_};
 ghost use Rattle.text.specs.Text.{room};
-ghost use Rattle.listing.specs.Page.{ReadWhole, kindKept};
+ghost use Rattle.listing.specs.Page.{ReadWhole};
 use intake::Input;
 use libc::STDERR_FILENO;
 use libc::STDOUT_FILENO;
-use paper::Verdict;
 use text::Text;
 
 mod page; // page.rt: the listing's text
@@ -21,18 +19,7 @@ fn shown(buffer: &[u8], read: Input) -> bool
     io::write_all(STDOUT_FILENO, &out[..n])
 }
 
-// The kind of a record that was kept, and none of any other.
-fn kind_of(buffer: &[u8], place: usize) -> u8
-    ensures { λ r. ⌜ r ≡ kindKept (now (buffer .entry)) place ⌝ }
-{
-    if place < buffer.len() / 32 {
-        record::kind_at(buffer, place)
-    } else {
-        0
-    }
-}
-
-// Says a line on standard error, in one write.
+// Says a line on standard error, in one write; an empty one is nothing.
 fn told(line: Text)
     requires { ⌜ line .from ≤ room ⌝ }
 {
@@ -46,11 +33,7 @@ fn explained(buffer: &[u8], read: Input)
     requires { ⌜ ReadWhole (now buffer) read ⌝ }
 {
     let n = read.kept;
-    let verdict = margin::scan_counted(&buffer[..n], read.whole);
-    match verdict {
-        Verdict::Sound(_) => {}
-        Verdict::Refused(f, place) => told(words::refusal(f, place, kind_of(buffer, place))),
-    }
+    told(page::reason(&buffer[..n], read.whole));
 }
 
 fn main() {

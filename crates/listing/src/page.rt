@@ -10,7 +10,7 @@ ghost use Rattle.paper.specs.Listing.{decimal, kroner as kronerOf, line, lines 
 ghost use Rattle.text.specs.Text.{room, right, shown};
 ghost use Rattle.margin.specs.Items.{itemOf};
 ghost use Rattle.listing.specs.declared.page.Page.the-variants.{Written};
-ghost use Rattle.listing.specs.Page.{Added, classIn, itemText, itemIn, figureLines, refusedLine, most, Listed, ReadWhole};
+ghost use Rattle.listing.specs.Page.{Added, classIn, itemText, itemIn, figureLines, refusedLine, most, Listed, ReadWhole, kindKept, Explained};
 use intake::Input;
 use margin::Item;
 use paper::Fault;
@@ -186,5 +186,27 @@ pub fn whole_listing(buffer: &[u8], read: Input, out: &mut [u8; 2570]) -> usize
     match page {
         Page::Written(bytes) => bytes,
         Page::Short => 0,
+    }
+}
+
+// The kind of a record that was kept, and none of any other.
+fn kind_of(kept: &[u8], place: usize) -> u8
+    ensures { λ r. ⌜ r ≡ kindKept (now (kept .entry)) place ⌝ }
+{
+    if place < kept.len() / 32 {
+        record::kind_at(kept, place)
+    } else {
+        0
+    }
+}
+
+// What is said of a book so kept and counted: a refusal in words, of a sound one nothing.
+pub fn reason(kept: &[u8], size: usize) -> Text
+    ensures { λ r. ⌜ Explained (now (kept .entry)) size r ⌝ }
+{
+    let verdict = margin::scan_counted(kept, size);
+    match verdict {
+        Verdict::Sound(_) => text::empty(),
+        Verdict::Refused(f, place) => words::refusal(f, place, kind_of(kept, place)),
     }
 }

@@ -1,7 +1,7 @@
 use borrow.Author.Tests.{lt-ltb, le-ltb}
 use borrow.Author.Needs.{needs}
-use Rattle.listing.proofs.kind_of.Statement.{statement}
-use Rattle.listing.proofs.kind_of.Tie as tie
+use Rattle.listing.proofs.page.kind_of.Statement.{statement}
+use Rattle.listing.proofs.page.kind_of.Tie as tie
 
 kind-at-requires : tie.Need-kind-at-requires
 kind-at-requires c κs = search needs
