@@ -1,7 +1,7 @@
 // The lines of a listing, each put together from its end: a tag of at most eight bytes, and its fields.
 ghost use mathlib.Core.Path.{_≡_};
 ghost use mathlib.Core.List.{List, [], _∷_, _++_};
-ghost use Prim.Native.Nat.{ℕ, _+_, _≤_};
+ghost use Prim.Native.Nat.{_+_, _≤_};
 ghost use lib.ListN.{length};
 ghost use Rattle.text.specs.Text.{room, right, shown};
 ghost use Rattle.paper.specs.Listing.{decimal, kroner as kronerOf, line};

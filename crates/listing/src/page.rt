@@ -1,7 +1,7 @@
 // The whole evening listing of a book, in a buffer that the caller lends.
 ghost use mathlib.Core.Path.{_≡_};
 ghost use mathlib.Core.List.{[], _∷_};
-ghost use Prim.Native.Nat.{ℕ, _+_, _-_, _≤_};
+ghost use Prim.Native.Nat.{_+_, _-_, _≤_};
 ghost use lib.ListN.{length, take};
 ghost use Rattle.paper.specs.declared.Verdict.the-variants.{Sound};
 ghost use Rattle.paper.specs.Refusals.{verdictOf};

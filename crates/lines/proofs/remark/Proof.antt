@@ -1,11 +1,11 @@
 use mathlib.Core.Path.{_≡_, _∙_}
 use mathlib.Core.List.{List, [], _∷_, _++_}
-use Prim.Native.Nat.{ℕ, _+_, _≤_}
+use Prim.Native.Nat.{ℕ, _+_}
 use native.Mathlib.Omega.{arith}
 use borrow.Author.Needs.{needs}
 use lib.ListN.{length, length-append}
 use Rattle.paper.specs.Listing.{decimal}
-use Rattle.text.specs.Text.{room, right}
+use Rattle.text.specs.Text.{right}
 use Rattle.lines.proofs.Fields.{ready, joined, number-short}
 use Rattle.lines.proofs.remark.Statement.{statement}
 use Rattle.lines.proofs.remark.Tie as tie
