@@ -9,6 +9,7 @@ use Rattle.listing.specs.declared.page.Page.the-variants.{Written}
 use Rattle.listing.proofs.page.listing.Reads as listing-reads
 use Rattle.listing.proofs.page.whole_listing.Reads as whole-listing-reads
 use Rattle.listing.proofs.page.reason.Reads as reason-reads
+use Rattle.listing.proofs.page.whole_reason.Reads as whole-reason-reads
 
 page : OneResult listing-reads.Post
 page κs a x y e f p q =
@@ -40,3 +41,9 @@ whole-out κs a x y e f p q =
 reason : OneResult reason-reads.Post
 reason κs a x y e f p q =
     by-book (now (a .0)) (a .1 .0) (λ b of. coincide (p .of-book b of) (q .of-book b of)) (λ none. coincide (p .of-none none) (q .of-none none))
+
+whole-reason : OneResult whole-reason-reads.Post
+whole-reason κs a x y e f p q =
+    by-book (take (a .1 .0 .kept) (now (a .0))) (a .1 .0 .whole)
+    (λ b of. coincide (p .of-book b of) (q .of-book b of))
+    (λ none. coincide (p .of-none none) (q .of-none none))

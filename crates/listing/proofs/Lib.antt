@@ -3,4 +3,5 @@ pub mod Pages
 pub mod Sounds
 pub mod Lengths
 pub mod Whole
+pub mod Reasons
 pub mod Determined

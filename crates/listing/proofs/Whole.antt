@@ -17,9 +17,6 @@ use Rattle.paper.specs.Refusals.{verdictOf}
 use Rattle.paper.specs.Answers.{codeOf}
 use Rattle.paper.specs.Listing.{listingFor, listingOf}
 use Rattle.book.proofs.Verdicts.{refused-out, length-out}
-use Rattle.text.specs.declared.Text.{Text}
-use Rattle.text.specs.Text.{room, right}
-use Rattle.lines.proofs.Fields.{starts}
 use Rattle.intake.specs.declared.Input.{Input}
 use Rattle.margin.specs.Counted.{KeptOf, CountedVerdict}
 use Rattle.margin.proofs.Answers.{same-fault}
@@ -27,7 +24,7 @@ use Rattle.margin.proofs.Promises.{no-refusal}
 use Rattle.margin.proofs.Counted.{by-book, counted-sound, counted-read}
 use Rattle.listing.specs.declared.page.Page.{Page}
 use Rattle.listing.specs.declared.page.Page.the-variants.{Written, Short}
-use Rattle.listing.specs.Page.{Added, refusedLine, most, Printed, Listed, ReadWhole, said, Explained}
+use Rattle.listing.specs.Page.{Added, refusedLine, most, Printed, Listed, ReadWhole}
 use Rattle.listing.proofs.Pages.{too-short, printed}
 use Rattle.listing.proofs.Lengths.{refused-short, sound-short}
 
@@ -111,17 +108,3 @@ module _ (kept : List ℕ) (size : ℕ) (out out′ : List ℕ) (h : most ≤ le
 
   pub as-long : (page : Page) → Listed kept size out page out′ → length out′ ≡ length out
   as-long page l = by-book kept size (λ b of. is-as-long h (l .of-book b of)) (λ none. is-as-long h (l .of-none none))
-
--- what is said of the verdict is said of the book's
-pub told-of : (kept : List ℕ) (size : ℕ) {t : Text} (v : Verdict) → CountedVerdict kept size v → t ≡ right (said kept v) → Explained kept size t
-told-of kept size v c e = record {
-  of-book = λ b of. e ∙ ap (λ (u : Verdict). right (said kept u)) (c .of-book b of);
-  of-none = λ none. e ∙ ap (λ (u : Verdict). right (said kept u)) (c .of-none none);
-}
-
--- it lies within its text
-pub told-from : (kept : List ℕ) (size : ℕ) (t : Text) → Explained kept size t → t .from ≤ room
-told-from kept size t x =
-    by-book kept size
-    (λ b of. starts t (said kept (verdictOf b)) (x .of-book b of))
-    (λ none. starts t (said kept (Refused Length (size / recordBytes))) (x .of-none none))

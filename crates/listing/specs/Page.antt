@@ -78,12 +78,12 @@ pub record ReadWhole (buffer : List ℕ) (read : Input) : Type 0 where
 abbrev pub kindKept : List ℕ → ℕ → ℕ
 kindKept b r = cond (ltb r (wholeRecords b)) (kindAt b r) 0
 
--- what is said of a verdict, over the records that were kept: a refusal in words, of a sound book nothing
+-- what is said of a verdict on a book: a refusal in words, with the kind of the record at its place; of a sound book nothing
 abbrev pub said : List ℕ → Verdict → List ℕ
-said kept (Sound s) = []
-said kept (Refused f place) = refusalLine f place (kindKept kept place)
+said b (Sound s) = []
+said b (Refused f place) = refusalLine f place (kindAt b place)
 
 -- of every book that was so kept and counted the text is of its verdict; what is of no book is a faulty length
 abbrev pub Explained : List ℕ → ℕ → Text → Type 0
 Explained kept size t =
-    Counted kept size (λ b. t ≡ right (said kept (verdictOf b))) (t ≡ right (said kept (Refused Length (size / recordBytes))))
+    Counted kept size (λ b. t ≡ right (said b (verdictOf b))) (t ≡ right (refusalLine Length (size / recordBytes) 0))

@@ -32,8 +32,7 @@ fn told(line: Text)
 fn explained(buffer: &[u8], read: Input)
     requires { ⌜ ReadWhole (now buffer) read ⌝ }
 {
-    let n = read.kept;
-    told(page::reason(&buffer[..n], read.whole));
+    told(page::whole_reason(buffer, read));
 }
 
 fn main() {

@@ -210,3 +210,12 @@ pub fn reason(kept: &[u8], size: usize) -> Text
         Verdict::Refused(f, place) => words::refusal(f, place, kind_of(kept, place)),
     }
 }
+
+// What is said of what was read to its end.
+pub fn whole_reason(buffer: &[u8], read: Input) -> Text
+    requires { ⌜ ReadWhole (now buffer) read ⌝ }
+    ensures { λ r. ⌜ Explained (take (read .kept) (now (buffer .entry))) (read .whole) r ⌝ }
+{
+    let n = read.kept;
+    reason(&buffer[..n], read.whole)
+}

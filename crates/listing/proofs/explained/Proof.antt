@@ -1,19 +1,16 @@
-use Rattle.listing.proofs.Whole.{kept-long, told-from}
+use Rattle.listing.proofs.Reasons.{said-within}
 use borrow.Author.Needs.{needs}
 use Rattle.listing.proofs.explained.Statement.{statement}
 use Rattle.listing.proofs.explained.Tie as tie
 
-slice-aggregate-reason : tie.Need-slice-aggregate-reason
-slice-aggregate-reason c = kept-long (c .before .before .pre)
-
-reason-requires : tie.Need-reason-requires
-reason-requires c κs = search needs
+whole-reason-requires : tie.Need-whole-reason-requires
+whole-reason-requires c κs = search needs
 
 told-requires : tie.Need-told-requires
-told-requires c κs = told-from _ _ _ (c .reason .ensures)
+told-requires c κs = said-within _ _ _ (c .whole-reason .ensures)
 
 returns : tie.Need-returns
 returns c = search needs
 
 pub explained-spec : {M : Type 1} → statement M
-explained-spec = tie.close (tie.spec slice-aggregate-reason reason-requires told-requires returns)
+explained-spec = tie.close (tie.spec whole-reason-requires told-requires returns)

@@ -1,5 +1,5 @@
 use mathlib.Core.Path.{_∙_}
-use Rattle.listing.proofs.Whole.{told-of}
+use Rattle.listing.proofs.Reasons.{nothing-said, refusal-said}
 use borrow.Author.Needs.{needs}
 use Rattle.listing.proofs.page.reason.Statement.{statement}
 use Rattle.listing.proofs.page.reason.Tie as tie
@@ -23,14 +23,12 @@ refusal-requires : tie.Need-refusal-requires
 refusal-requires c κs = search needs
 
 returns : tie.Need-returns
-returns c =
-    let s = c .before .before .before in
-    told-of _ _ (s .scan-counted .result) (s .scan-counted .ensures) (c .empty .ensures ∙ rw (c .before .enum-told .given .1))
+returns c = nothing-said _ _ _ (rw (c .before .enum-told .given .1) at (c .before .before .before .scan-counted .ensures)) (c .empty .ensures)
 
 returns-2 : tie.Need-returns-2
 returns-2 c =
-    let s = c .before .before .before .before .before in
-    told-of _ _ (s .scan-counted .result) (s .scan-counted .ensures) (c .refusal .ensures ∙ rw (c .before .kind-of .ensures, c .before .before .before .verdict .given .1))
+    let v = rw (c .before .before .before .verdict .given .1) at (c .before .before .before .before .before .scan-counted .ensures) in
+    refusal-said _ _ _ _ v (c .refusal .ensures ∙ rw (c .before .kind-of .ensures))
 
 pub reason-spec : {M : Type 1} → statement M
 reason-spec =
