@@ -5,6 +5,7 @@ ghost use Prim.Native.Nat.{_+_, _≤_};
 ghost use lib.ListN.{length};
 ghost use Rattle.text.specs.Text.{room, right, shown};
 ghost use Rattle.paper.specs.Listing.{decimal, kroner as kronerOf, line};
+ghost use Rattle.lines.specs.Remarks.{remark as remarkOf};
 use text::Text;
 
 // The end of a line.
@@ -60,7 +61,7 @@ pub fn item(tag: &[u8], i: u64, point: u64, z: i64) -> Text
 // A remark in words with a number in it: what stands before the number, what after it, and what is said.
 pub fn remark(front: &[u8], n: u64, middle: &[u8], meaning: &[u8]) -> Text
     requires { ⌜ length (now front) + length (now middle) + length (now meaning) ≤ 70 ⌝ }
-    ensures { λ r. ⌜ r ≡ right (now (front .entry) ++ (decimal n ++ (now (middle .entry) ++ (now (meaning .entry) ++ (10 ∷ []))))) ⌝ }
+    ensures { λ r. ⌜ r ≡ right (remarkOf (now (front .entry)) n (now (middle .entry)) (now (meaning .entry))) ⌝ }
 {
     let said = text::with_bytes(text::with_bytes(newline(), meaning), middle);
     text::with_bytes(text::with_decimal(said, n), front)

@@ -1,12 +1,12 @@
 -- A refusal in words, for whoever reads it on a screen. The words are ours.
-use mathlib.Core.List.{List, [], _∷_, _++_}
+use mathlib.Core.List.{List, [], _∷_}
 use Prim.Native.Nat.{ℕ}
 use Prim.Native.Char.{code}
 use Prim.Native.String.{String, [] as end, _∷_ as _then_}
 use Rattle.paper.specs.declared.Fault.{Fault}
 use Rattle.paper.specs.declared.Fault.the-variants.{Length, Letter, Order, Limit, Reserved, Reference, Range, Points, Rows, Choice}
 use Rattle.paper.specs.Records.{byKind}
-use Rattle.paper.specs.Listing.{decimal}
+use Rattle.lines.specs.Remarks.{remark}
 
 -- the bytes of a text; a character of plain English is one byte
 unfoldable pub bytes : String → List ℕ
@@ -29,10 +29,6 @@ meaning Range = "a field is out of its range"
 meaning Points = "its points differ from class 0's"
 meaning Rows = "the rows buffer is too short"
 meaning Choice = "the choice buffer is too short"
-
--- a line with a number in it
-abbrev pub remark : List ℕ → ℕ → List ℕ → List ℕ → List ℕ
-remark front n middle said = front ++ (decimal n ++ (middle ++ (said ++ (10 ∷ []))))
 
 -- "record 3, an instrument: a field is out of its range"
 abbrev pub recordLine : ℕ → ℕ → List ℕ → List ℕ

@@ -1,0 +1,2 @@
+-- What a line of words is.
+pub mod Remarks
