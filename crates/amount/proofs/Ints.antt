@@ -114,7 +114,7 @@ fail_out a b h = le_out {a = b} {b = a} (lt_z_no {a = a} {b = b} (false_T h))
 
 -- reading back the bits of a number that an i64 holds
 pub back : (z : ℤ) → mag z < 2 ^ 63 → to_z w64 (of_z w64 z) ≡ z
-back z h = to_z-of_z (record { sfits = h })
+back z h = to_z-of_z {w = w64} (record { sfits = h })
 
 pub ruleset ints = (arith, le_out, le_in, lt_out, lt_in, eq_out, eq_in, fits_out, fits_in, nonneg_out, nonneg_in, test_out, fail_out)
 

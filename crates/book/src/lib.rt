@@ -1,4 +1,6 @@
 // Whether a book is sound: records of 32 bytes, classes, then instruments, then positions.
+#![tactic(auto)]
+
 ghost use Rattle.std.specs.Prelude.{◌≡◌, ◌+◌, ◌*◌, ◌%◌, ◌≤◌, length};
 ghost use Rattle.paper.specs.Records.{class_at, shape_of};
 ghost use Rattle.paper.specs.Refusals.{verdict_of};

@@ -1,4 +1,6 @@
 // The same call for C and Rust. Slices pass as a pointer and a length, the five numbers of the answer through five pointers.
+#![tactic(auto)]
+
 ghost use Rattle.margin.specs.Run.{Ran};
 ghost use Rattle.desk.specs.Call.{totals as totals_of};
 

@@ -1,5 +1,7 @@
 // The tables of the Danish guide: its two vectors, its result vector, its instruments' marks and its mortgage bond example. Standard input has the
 // two books: 1000 bought of CFRAU9 and 700 sold of CFRAH9, and 100 of MBFH9 bought today at 101.8.
+#![tactic(auto)]
+
 use libc::{STDIN_FILENO, STDOUT_FILENO};
 use margin::Item;
 use paper::Answer;

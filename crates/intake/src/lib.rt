@@ -1,4 +1,6 @@
 // Standard input, to its end: the first bytes are kept, the others are counted.
+#![tactic(auto)]
+
 ghost use Rattle.std.specs.Prelude.{◌≡◌, ℕ, ◌+◌, ◌*◌, ◌≤◌, ◌<◌, min, length, take};
 ghost use Rattle.paper.specs.Listing.{kept_bytes};
 ghost use Rattle.intake.specs.declared.Came.TheVariants.{Bytes};

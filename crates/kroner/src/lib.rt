@@ -1,4 +1,6 @@
 // An amount in whole øre as text, in kroner with two decimals, and back.
+#![tactic(auto)]
+
 ghost use Rattle.std.specs.Prelude.{◌≡◌, List, [], ◌∷◌, ℕ, ◌+◌, ◌-◌, ◌*◌, ◌/◌, ◌%◌, ◌<◌, ◌≤◌, ◌^◌, ℤ, nat_abs, length};
 ghost use Rattle.paper.specs.Listing.{digit as digit_of, kroner as kroner_of};
 ghost use Rattle.std.proofs.Math.Seq.{slice};

@@ -1,5 +1,7 @@
 // Either side of every limit on a record: ranges, references, reserved bytes, letters, two faults at once. A line a case, with its
 // name and what the scan answers. `sizes` runs lengths, numbers of records and buffers.
+#![tactic(auto)]
+
 ghost use Rattle.std.specs.Prelude.{◌<◌};
 
 use libc::STDOUT_FILENO;

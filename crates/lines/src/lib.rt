@@ -1,4 +1,6 @@
 // The lines of a listing, each put together from its end: a tag of at most eight bytes, and its fields.
+#![tactic(auto)]
+
 ghost use Rattle.std.specs.Prelude.{◌≡◌, List, [], ◌∷◌, ◌++◌, ◌+◌, ◌≤◌, length};
 ghost use Rattle.text.specs.Text.{room, right, shown};
 ghost use Rattle.paper.specs.Listing.{decimal, kroner as kroner_of, line};

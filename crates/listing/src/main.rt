@@ -1,5 +1,7 @@
 // The evening listing of the book on standard input: it is read, its listing is worked out once and handed over in one call. A
 // refusal is said in words too, on standard error.
+#![tactic(auto)]
+
 ghost use Rattle.std.specs.Prelude.{◌≤◌};
 ghost use Rattle.text.specs.Text.{room};
 ghost use Rattle.listing.specs.Page.{ReadWhole};

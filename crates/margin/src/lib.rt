@@ -1,4 +1,6 @@
 // The one call of the desk: a book and two buffers in, the answer and the figures out. Nothing is to be checked first.
+#![tactic(auto)]
+
 ghost use Rattle.std.specs.Prelude.{◌≡◌, ℕ, ◌+◌, ◌*◌, ◌<◌, ◌≤◌, min, length};
 ghost use Rattle.paper.specs.Refusals.{verdict_of, verdict_on, with_room};
 ghost use Rattle.paper.specs.Answers.{walk_of, figures as figures_of, rows_for, choice_for, answer_code, answer_place, answer_totals};

@@ -1,4 +1,6 @@
 // The vocabulary of the desk: the types that every crate passes by value. specs/ says what they mean.
+#![tactic(auto)]
+
 ghost use Rattle.std.specs.Prelude.{◌≡◌, ℤ, pos, ◌+ℤ◌};
 ghost use Rattle.std.specs.Int.{w64};
 ghost use Rattle.std.proofs.Common.{SFits};

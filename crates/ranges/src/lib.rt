@@ -1,5 +1,7 @@
 // The ranges of the fields: what the fields of one record find. The product decides the ranges of an instrument and of a
 // position, and the code of a field that is out of them.
+#![tactic(auto)]
+
 ghost use Rattle.std.specs.Prelude.{◌≡◌, cond};
 ghost use Rattle.paper.specs.declared.Fault.TheVariants.{Range};
 ghost use Rattle.paper.specs.declared.Finding.TheVariants.{Clean, Faulty};

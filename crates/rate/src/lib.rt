@@ -1,4 +1,6 @@
 // Yields as the paper counts them: in hundred-millionths, so that 3.70 % is 3,700,000.
+#![tactic(auto)]
+
 ghost use Rattle.std.specs.Prelude.{◌≡◌, ℕ, ◌*◌, ◌<◌, ◌≤◌, ◌^◌, ℤ, pos, nat_abs, ◌*ℤ◌};
 ghost use Rattle.paper.specs.Units.{full_rate, basis_point, hundredth, nominal};
 ghost use Rattle.paper.specs.Rounding.{nearest};

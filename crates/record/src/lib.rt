@@ -1,4 +1,6 @@
 // One record of a book: its kind, the fields that the kind names, and the bytes that it does not.
+#![tactic(auto)]
+
 ghost use Rattle.std.specs.Prelude.{◌≡◌, ◌+◌, ◌*◌, ◌≤◌, length};
 ghost use Rattle.paper.specs.Records.{kind_of, kind_at, class_at, instrument_at, position_at};
 ghost use Rattle.paper.specs.Refusals.{zeros as zeros_of, reserved_zero};

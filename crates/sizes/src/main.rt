@@ -1,6 +1,8 @@
 // Either side of every limit on sizes: a book's length, the records of each kind, what was kept of what was counted, and the
 // buffers lent to a run. A line a case, with its name and the answer; of a run also whether its totals are zero, and how many
 // entries of the rows and the choice it wrote.
+#![tactic(auto)]
+
 ghost use Rattle.std.specs.Prelude.{◌+◌, ◌<◌, ◌≤◌};
 
 use libc::STDOUT_FILENO;

@@ -1,4 +1,6 @@
 // A short text, put together from its end: at the right end of its bytes, with zeros before it.
+#![tactic(auto)]
+
 ghost use Rattle.std.specs.Prelude.{◌≡◌, List, [], ◌++◌, ℕ, ◌<◌, ◌≤◌, length};
 ghost use Rattle.paper.specs.Listing.{digit as digit_of, decimal};
 ghost use Rattle.text.specs.Text.{room, right, shown, in_front};

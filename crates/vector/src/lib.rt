@@ -1,5 +1,7 @@
 // One instrument: the amount of what is held of it at a point, its vector, its naked margin and its mark-to-market. Over
 // a sound book: what is held of an instrument, its mark-to-market amount, and the totals of marks and naked margins.
+#![tactic(auto)]
+
 ghost use Rattle.std.specs.Prelude.{◌≡◌, true, cond, ◌++◌, ◌-◌, ◌<◌, ◌≤◌, eqb, pos, nat_abs, neg_ℤ, ◌*ℤ◌, length, get_or, drop};
 ghost use Rattle.paper.specs.Sums.{listed, lowest as lowest_of};
 ghost use Rattle.paper.specs.declared.Verdict.TheVariants.{Sound};

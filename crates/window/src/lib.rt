@@ -1,5 +1,7 @@
 // The window of a class: its width and reach, the lowest entry within reach of a point, the point chosen there, and a
 // vector slid over a row.
+#![tactic(auto)]
+
 ghost use Rattle.std.specs.Prelude.{◌≡◌, ◌+◌, ◌-◌, ◌<◌, ◌≤◌, min, length};
 ghost use Rattle.std.specs.Int.Signed.{lt_z};
 ghost use Rattle.paper.specs.Sums.{lowest};

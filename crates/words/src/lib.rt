@@ -1,4 +1,6 @@
 // A refusal in words: which record, of what kind, and what is wrong with it.
+#![tactic(auto)]
+
 ghost use Rattle.std.specs.Prelude.{◌≡◌, ◌≤◌, length};
 ghost use Rattle.text.specs.Text.{right};
 ghost use Rattle.words.specs.Words.{record_line, book_line, refusal_line};
