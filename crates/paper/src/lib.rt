@@ -7,7 +7,7 @@ ghost use Rattle.std.proofs.Common.{SFits};
 ghost use Rattle.paper.specs.Answers.{code_of, answer_code, answer_place, answer_totals, no_totals, add_mark, add_naked, add_cross};
 
 // A class record's fields.
-#[derive(Drop)]
+#[derive(Clone, Copy)]
 pub struct Class {
     pub parent: u16,
     pub points: u16,
@@ -15,7 +15,7 @@ pub struct Class {
 }
 
 // An instrument record's fields. Yields, prices, Par and Adj are signed from the reader on.
-#[derive(Drop)]
+#[derive(Clone, Copy)]
 pub struct Instrument {
     pub product: u8,
     pub class: u16,
@@ -27,7 +27,7 @@ pub struct Instrument {
 }
 
 // A position record's fields.
-#[derive(Drop)]
+#[derive(Clone, Copy)]
 pub struct Position {
     pub side: u8,
     pub instrument: u16,
@@ -37,14 +37,14 @@ pub struct Position {
 }
 
 // What the positions hold of one instrument: bought less sold, and bought and sold together.
-#[derive(Drop)]
+#[derive(Clone, Copy)]
 pub struct Holding {
     pub net: i64,
     pub gross: i64,
 }
 
 // How many records of each kind a book has, and the points of its classes.
-#[derive(Drop)]
+#[derive(Clone, Copy)]
 pub struct Shape {
     pub classes: usize,
     pub instruments: usize,
@@ -53,7 +53,7 @@ pub struct Shape {
 }
 
 // The rows of the refusal table, in its order.
-#[derive(Drop)]
+#[derive(Clone, Copy)]
 pub enum Fault {
     Length,
     Letter,
@@ -88,21 +88,21 @@ impl Fault {
 }
 
 // What the tests of one record find.
-#[derive(Drop)]
+#[derive(Clone, Copy)]
 pub enum Finding {
     Clean,
     Faulty(Fault),
 }
 
 // What the tests of a whole book find: its shape, or the first fault and its place.
-#[derive(Drop)]
+#[derive(Clone, Copy)]
 pub enum Verdict {
     Sound(Shape),
     Refused(Fault, usize),
 }
 
 // What comes back of a run.
-#[derive(Drop)]
+#[derive(Clone, Copy)]
 pub enum Answer {
     Accepted(Totals),
     Refused(Fault, usize),
@@ -139,7 +139,7 @@ impl Answer {
 }
 
 // The running totals, in whole øre: each method takes them by value and hands them back with one amount more.
-#[derive(Drop)]
+#[derive(Clone, Copy)]
 pub struct Totals {
     pub mark: i64,
     pub naked: i64,

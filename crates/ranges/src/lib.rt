@@ -11,7 +11,7 @@ ghost use Rattle.ranges.specs.Limits.{holds as holds_of, fra as fra_of, future a
 use paper::{Class, Fault, Finding, Instrument, Position};
 
 // A range: its lower end and its upper.
-#[derive(Drop)]
+#[derive(Clone, Copy)]
 struct Span(i64, i64);
 
 fn holds(s: Span, z: i64) -> bool
@@ -21,7 +21,7 @@ fn holds(s: Span, z: i64) -> bool
 }
 
 // The ranges that a product decides: of the days, the fixings and prices, Par and Adj.
-#[derive(Drop)]
+#[derive(Clone, Copy)]
 struct Limits {
     first: u16,
     last: u16,

@@ -22,6 +22,7 @@ fn four(low: u16, high: u16) -> u32
     (low as u32) + 65536 * (high as u32)
 }
 
+#[tactic(auto, unfolding(paper::specs::Records::le16))]
 pub fn le16(book: &[u8], r: usize, o: usize) -> u16
     requires { 32 * r + o + 1 < length book.now }
     ensures { result ≡ le16_of book.now r o }
@@ -29,6 +30,7 @@ pub fn le16(book: &[u8], r: usize, o: usize) -> u16
     two(byte(book, r, o), byte(book, r, o + 1))
 }
 
+#[tactic(auto, unfolding(paper::specs::Records::le32))]
 pub fn le32(book: &[u8], r: usize, o: usize) -> u32
     requires { 32 * r + o + 3 < length book.now }
     ensures { result ≡ le32_of book.now r o }

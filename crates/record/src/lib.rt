@@ -11,6 +11,7 @@ use paper::{Class, Instrument, Position};
 mod bytes; // bytes.rt: little-endian numbers at a byte of a record
 
 // A kind is its rank in the book: classes, instruments, positions. 0 is none.
+#[tactic(auto, unfolding(paper::specs::Records::kind_of))]
 fn kind(letter: u8) -> u8
     ensures { result ≡ kind_of letter }
 {
@@ -47,6 +48,7 @@ fn zeros(book: &[u8], r: usize, o: usize, n: usize) -> bool
 }
 
 // The bytes that a record's kind does not name are reserved.
+#[tactic(auto, unfolding(paper::specs::Refusals::reserved_zero))]
 pub fn reserved_zero(book: &[u8], r: usize) -> bool
     requires { 32 * r + 32 ≤ length book.now }
     ensures { result ≡ reserved_zero book.now r }
@@ -60,6 +62,7 @@ pub fn reserved_zero(book: &[u8], r: usize) -> bool
     }
 }
 
+#[tactic(auto, unfolding(paper::specs::Records::class_at))]
 pub fn class_at(book: &[u8], r: usize) -> Class
     requires { 32 * r + 32 ≤ length book.now }
     ensures { result ≡ class_at book.now r }
@@ -71,6 +74,7 @@ pub fn class_at(book: &[u8], r: usize) -> Class
     }
 }
 
+#[tactic(auto, unfolding(paper::specs::Records::instrument_at))]
 pub fn instrument_at(book: &[u8], r: usize) -> Instrument
     requires { 32 * r + 32 ≤ length book.now }
     ensures { result ≡ instrument_at book.now r }
@@ -86,6 +90,7 @@ pub fn instrument_at(book: &[u8], r: usize) -> Instrument
     }
 }
 
+#[tactic(auto, unfolding(paper::specs::Records::position_at))]
 pub fn position_at(book: &[u8], r: usize) -> Position
     requires { 32 * r + 32 ≤ length book.now }
     ensures { result ≡ position_at book.now r }
