@@ -62,6 +62,7 @@ fn reserved_fault(book: &[u8], r: usize) -> bool
     !reserved_zero(book, r)
 }
 
+#[tactic(auto, unfolding(paper::specs::Refusals::reference_fault))]
 fn reference_fault(book: &[u8], r: usize, s: Shape) -> bool
     requires { 32 * r + 32 ≤ length book.now }
     ensures { result ≡ reference_fault book.now r s }
@@ -79,6 +80,7 @@ fn reference_fault(book: &[u8], r: usize, s: Shape) -> bool
 }
 
 // A position's price has the range of the product of the instrument named, so that must stand before it.
+#[tactic(auto, unfolding(paper::specs::Refusals::range_fault))]
 fn range_finding(book: &[u8], r: usize, s: Shape) -> Finding
     requires { (32 * r + 32 ≤ length book.now) × (s.classes + s.instruments ≤ r) × (reference_fault book.now r s ≡ false) }
     ensures { result ≡ cond (range_fault book.now r s) (Faulty Range) Clean }
@@ -96,6 +98,7 @@ fn range_finding(book: &[u8], r: usize, s: Shape) -> Finding
     }
 }
 
+#[tactic(auto, unfolding(paper::specs::Refusals::points_fault))]
 fn points_fault(book: &[u8], r: usize, s: Shape) -> bool
     requires { 32 * r + 32 ≤ length book.now }
     ensures { result ≡ points_fault book.now r s }
@@ -108,6 +111,7 @@ fn points_fault(book: &[u8], r: usize, s: Shape) -> bool
 }
 
 // The first fault of record r's fields: codes 6 to 8, of which the ranges' own decision gives its code.
+#[tactic(auto, unfolding(paper::specs::Refusals::tests, paper::specs::Refusals::first_given))]
 fn fields_finding(book: &[u8], r: usize, s: Shape) -> Finding
     requires { (32 * r + 32 ≤ length book.now) × (s.classes + s.instruments ≤ r) }
     ensures { result ≡ first_given (drop 4 (tests book.now r s)) }
@@ -127,6 +131,7 @@ fn fields_finding(book: &[u8], r: usize, s: Shape) -> Finding
 }
 
 // The first fault of record r, where the records before it are s.
+#[tactic(auto, unfolding(paper::specs::Refusals::tests, paper::specs::Refusals::first_given))]
 pub fn finding(book: &[u8], r: usize, s: Shape) -> Finding
     requires { (32 * r + 32 ≤ length book.now) × (s.classes + s.instruments ≤ r) }
     ensures { result ≡ first_given (tests book.now r s) }
