@@ -3,17 +3,17 @@
 -- `plus a b`, each negation as `neg a`, and `sign z` where the fit of z is concerned. Assumes nothing.
 use mathlib.Core.Path.{◌≡◌, refl, ap}
 use mathlib.Core.Logic.{◌⊎◌, inl, inr}
-use mathlib.Core.Bool.{Bool, true, false, not, cond}
-use Prim.Native.Nat.{ℕ, zero, suc, ◌+◌, ◌-◌, ◌^◌, ◌≤◌, ◌<◌, pred, min}
+use mathlib.Core.Bool.{Bool, true, false, not}
+use Prim.Native.Nat.{ℕ, zero, suc, ◌+◌, ◌^◌, ◌≤◌, ◌<◌, pred, min}
 use native.Mathlib.Omega.{arith}
 use native.Mathlib.Decide.{dec_lt}
 use borrow.Author.Tests.{lt-ltb, le-ltb}
 use lib.Dec.{T, leb→le, le→leb, ltb→lt, lt→ltb}
-use lib.IntN.{ℤ, pos, negsuc, neg_ℤ, nat_abs, sub_ℕ, ◌+ℤ◌, ◌-ℤ◌}
+use lib.IntN.{ℤ, pos, negsuc, neg_ℤ, nat_abs, sub_ℕ, ◌+ℤ◌}
 use mir.Facts.{to_z-of_z}
-use lib.Signed.{mag, ◌≤ℤ◌, ◌<ℤ◌, lt_z, lt_z_yes, lt_z_no, ≤ℤ_refl, non_neg}
+use lib.Signed.{mag, ◌≤ℤ◌, ◌<ℤ◌, lt_z, lt_z_yes, lt_z_no, non_neg}
 use mir.Val.{SFits, hbits, to_z, of_z}
-use mir.Syntax.{Width, w32, w64}
+use mir.Syntax.{Width, w64}
 
 -- z is up z - down z, and one of the two is 0
 abbrev pub up : ℤ → ℕ

@@ -1,10 +1,10 @@
 -- `nearest z d` is the whole number nearest to z / d, halves away from zero, and nothing else is. Assumes nothing.
 use mathlib.Core.Path.{◌≡◌, refl, sym, ap, ◌∙◌}
-use Prim.Native.Nat.{ℕ, zero, suc, ◌+◌, ◌-◌, ◌*◌, ◌/◌, ◌%◌, ◌≤◌, ◌<◌}
-use native.Mathlib.Nat.{zero-mul, div-add-mod', mod-lt, mul-le-mul_right, mul-le-mul_left, div-lt_iff_lt-mul}
+use Prim.Native.Nat.{ℕ, zero, suc, ◌+◌, ◌-◌, ◌*◌, ◌%◌, ◌≤◌, ◌<◌}
+use native.Mathlib.Nat.{zero-mul, div-add-mod', mod-lt, mul-le-mul_right, mul-le-mul_left}
 use native.Mathlib.Omega.{arith}
 use native.Mathlib.Decide.{ℕ_discrete, dec_lt}
-use lib.IntN.{ℤ, pos, negsuc, neg_ℤ, nat_abs, ◌+ℤ◌, ◌-ℤ◌, ◌*ℤ◌, neg_ℤ-neg_ℤ, +ℤ_idl}
+use lib.IntN.{ℤ, pos, negsuc, neg_ℤ, nat_abs, ◌-ℤ◌, ◌*ℤ◌, neg_ℤ-neg_ℤ, +ℤ_idl}
 use lib.Signed.{◌≤ℤ◌, ◌<ℤ◌}
 use Rattle.paper.specs.Rounding.{nearest_size, nearest, distance, Nearest}
 use Rattle.amount.proofs.Ints.{ints, plus, neg, sign, abs}

@@ -1,9 +1,8 @@
 -- "One table, one statement over it, from the definitions alone." Assumes nothing.
 use mathlib.Core.Path.{◌≡◌, refl}
-use mathlib.Core.Bool.{true, false}
 use mathlib.Core.List.{List, [], ◌∷◌, map}
 use Prim.Native.Nat.{ℕ}
-use lib.IntN.{ℤ, pos, negsuc, neg_ℤ}
+use lib.IntN.{ℤ, pos, neg_ℤ}
 use Rattle.paper.specs.declared.Instrument.{Instrument}
 use Rattle.paper.specs.declared.Holding.{Holding}
 use Rattle.paper.specs.Sums.{lowest}

@@ -10,7 +10,7 @@ use Rattle.paper.specs.declared.Answer.{Answer}
 use Rattle.paper.specs.declared.Answer.TheVariants as answer
 use Rattle.paper.specs.Sums.{listed}
 use Rattle.paper.specs.Refusals.{verdict_on}
-use Rattle.paper.specs.Products.{Terms, Positions, terms_of, positions_of, mark_total, naked_total}
+use Rattle.paper.specs.Products.{terms_of, positions_of, mark_total, naked_total}
 use Rattle.paper.specs.Trees.{Tree, tree_of, row_of, cross_of, class_choice, item_choice, LowestTotal}
 
 -- "the totals of mark-to-market, naked and cross margin": zero, and with one amount more

@@ -1,5 +1,5 @@
 -- "Amount at a point", and mark-to-market. What is fixed and the positions are two things, both read from the book.
-use Rattle.std.specs.Prelude.{Bool, true, false, cond, List, ℕ, ◌+◌, ◌-◌, ◌*◌, eqb, ℤ, pos, neg_ℤ, nat_abs, ◌+ℤ◌, ◌-ℤ◌, ◌*ℤ◌}
+use Rattle.std.specs.Prelude.{Bool, cond, List, ℕ, ◌-◌, ◌*◌, eqb, ℤ, pos, neg_ℤ, nat_abs, ◌+ℤ◌, ◌-ℤ◌, ◌*ℤ◌}
 use Rattle.std.specs.Int.Signed.{non_neg}
 use Rattle.paper.specs.declared.Class.{Class}
 use Rattle.paper.specs.declared.Instrument.{Instrument}

@@ -1,5 +1,5 @@
 -- "The book": its records and their fields. A book is the list of its bytes; the fields are read out of it.
-use Rattle.std.specs.Prelude.{Bool, cond, List, ℕ, zero, suc, ◌+◌, ◌*◌, ◌/◌, eqb, ℤ, pos, length, get_or}
+use Rattle.std.specs.Prelude.{Bool, cond, List, ℕ, zero, suc, ◌+◌, ◌*◌, ◌/◌, eqb, pos, length, get_or}
 use Rattle.paper.specs.declared.Class.{Class}
 use Rattle.paper.specs.declared.Instrument.{Instrument}
 use Rattle.paper.specs.declared.Position.{Position}

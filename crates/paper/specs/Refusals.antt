@@ -11,7 +11,7 @@ use Rattle.paper.specs.declared.Finding.{Finding}
 use Rattle.paper.specs.declared.Finding.TheVariants.{Clean, Faulty}
 use Rattle.paper.specs.declared.Verdict.{Verdict}
 use Rattle.paper.specs.declared.Verdict.TheVariants.{Sound, Refused}
-use Rattle.paper.specs.Records.{record_bytes, whole_records, byte, by_kind, kind_at, root, class_at, instrument_at, position_at, traded_today, count, shape_of, instrument_of}
+use Rattle.paper.specs.Records.{record_bytes, whole_records, byte, by_kind, kind_at, root, class_at, instrument_at, position_at, traded_today, shape_of, instrument_of}
 
 -- "At most 24 classes, 64 instruments, 256 positions."
 abbrev pub most_classes : ℕ

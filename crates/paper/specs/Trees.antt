@@ -1,6 +1,5 @@
 -- "The window" over trees: results, cross margin, what choice is allowed, its total, and the choice handed back.
-use Rattle.std.specs.Prelude.{◌≡◌, ◌≢◌, Bool, cond, ℕ, ◌+◌, ◌-◌, ◌/◌, ◌<◌, eqb, ℤ, pos, ◌+ℤ◌, ◌≤ℤ◌}
-use Rattle.paper.specs.declared.Holding.{Holding}
+use Rattle.std.specs.Prelude.{◌≡◌, ◌≢◌, Bool, cond, ℕ, ◌-◌, ◌/◌, ◌<◌, eqb, ℤ, pos, ◌+ℤ◌, ◌≤ℤ◌}
 use Rattle.paper.specs.Sums.{sum, only, rounds, lowest}
 use Rattle.paper.specs.Records.{root}
 use Rattle.paper.specs.Products.{Terms, Positions, held_of, amount_at}

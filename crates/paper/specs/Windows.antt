@@ -1,5 +1,5 @@
 -- "The window": its width and reach, the lowest entry within reach of a point, and the point that is chosen there.
-use Rattle.std.specs.Prelude.{Bool, cond, ◌&&◌, ℕ, zero, suc, ◌+◌, ◌-◌, ◌*◌, ◌/◌, ◌≤◌, min, ℤ}
+use Rattle.std.specs.Prelude.{cond, ℕ, zero, suc, ◌+◌, ◌-◌, ◌*◌, ◌/◌, ◌≤◌, min, ℤ}
 use Rattle.std.specs.Int.Signed.{le_z}
 use Rattle.paper.specs.Sums.{lowest}
 

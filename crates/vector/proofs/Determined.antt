@@ -1,7 +1,5 @@
 -- Each public function's contract allows one outcome: one result, and of `fill` one content of the working array.
 -- Assumes nothing.
-use mathlib.Core.List.{List}
-use lib.IntN.{ℤ}
 use Rattle.amount.proofs.Outcomes.{OneOutcome, OneResult, coincide}
 use Rattle.vector.proofs.amount_at.Reads as amount-at-reads
 use Rattle.vector.proofs.fill.Reads as fill-reads

@@ -1,4 +1,4 @@
-use Rattle.std.proofs.Common.{◌≡◌, ◌∙◌, ap, List, ℕ, ◌-◌, ◌*◌, ◌/◌, ◌≤◌, length, arith, rules}
+use Rattle.std.proofs.Common.{◌≡◌, ◌∙◌, ap, List, ℕ, ◌-◌, ◌/◌, length, arith, rules}
 use Rattle.std.proofs.Math.Nat.{sub-zero}
 use borrow.Author.Tests.{eq-eqb, ne_eqb}
 use Rattle.paper.specs.declared.Shape.{Shape}

@@ -1,4 +1,4 @@
-use Rattle.std.proofs.Common.{◌≡◌, ◌∙◌, ◌&&◌, List, ℕ, zero, suc, ◌+◌, ◌-◌, ◌<◌, eqb, arith, rules}
+use Rattle.std.proofs.Common.{◌≡◌, ◌∙◌, ◌&&◌, List, ℕ, zero, suc, ◌+◌, ◌-◌, ◌<◌, eqb, arith}
 use borrow.Author.Tests.{eq-eqb, ne_eqb}
 use Rattle.paper.specs.Records.{byte}
 use Rattle.paper.specs.Refusals.{zeros}
@@ -19,7 +19,7 @@ pub loop-left-preserved : goal.loop-left-preserved
 loop-left-preserved c =
     let l = c.loop-left in (
       omega arith,
-      l.invariant.1 ∙ rw (step c.args.book.now c.args.r l.at l.left c.loop-left-test.true, ← c.byte.ensures, eq-eqb _ _ c.if-byte-ne0.false)
+      l.invariant.1 ∙ rw (step c.args.book.now c.args.r l.at l.left c.loop-left-test.true, ← c.byte.ensures, eq-eqb _ _ c.if-byte-ne0.false),
     )
 
 pub returns : goal.returns

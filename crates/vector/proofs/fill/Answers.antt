@@ -1,9 +1,9 @@
-use Rattle.std.proofs.Common.{◌≡◌, ◌∙◌, ap, refl, ◌<◌, length, pos, arith, rules}
+use Rattle.std.proofs.Common.{refl, ◌<◌, length, pos, arith, rules}
 use lib.ListN.{length-set}
 use Rattle.paper.specs.Sums.{listed}
 use Rattle.paper.specs.Products.{amount_at}
 use Rattle.amount.proofs.Ints.{back}
-use Rattle.vector.proofs.Listed.{begun, begun_set}
+use Rattle.vector.proofs.Listed.{begun_set}
 use Rattle.vector.proofs.fill.Goals as goal
 
 pub loop-i-init : goal.loop-i-init

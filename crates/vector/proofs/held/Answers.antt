@@ -1,4 +1,4 @@
-use Rattle.std.proofs.Common.{◌≡◌, ◌∙◌, sym, arith, rules}
+use Rattle.std.proofs.Common.{◌∙◌, sym, arith}
 use Rattle.std.proofs.Math.Numerals.{add-one}
 use Rattle.paper.specs.Records.{position_of}
 use Rattle.vector.proofs.Gross.{held_none, held_next}

@@ -1,4 +1,4 @@
-use Rattle.std.proofs.Common.{◌≡◌, ◌∙◌, ap, ap₂, cond, ℤ, pos, neg_ℤ, ◌+ℤ◌, arith}
+use Rattle.std.proofs.Common.{◌∙◌, ap, ap₂, cond, ℤ, neg_ℤ, ◌+ℤ◌, arith}
 use Rattle.paper.specs.Records.{bought}
 use Rattle.amount.proofs.Ints.{back}
 use Rattle.vector.proofs.Signs.{read_back, read_nat}

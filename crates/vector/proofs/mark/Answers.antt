@@ -1,10 +1,9 @@
-use Rattle.std.proofs.Common.{◌≡◌, ◌∙◌, ap, ap₂, cond, ℕ, ◌<◌, ◌≤◌, ◌^◌, ℤ, neg_ℤ, ◌*ℤ◌, to_z, of_z, arith, true}
+use Rattle.std.proofs.Common.{◌≡◌, ◌∙◌, ap, ap₂, cond, ◌<◌, ◌≤◌, ◌^◌, ℤ, neg_ℤ, ◌*ℤ◌, to_z, of_z, arith}
 use Rattle.std.specs.Int.{w64}
 use Rattle.std.specs.Int.Signed.{mag}
 use Rattle.paper.specs.declared.Instrument.{Instrument}
 use Rattle.paper.specs.declared.Position.{Position}
 use Rattle.paper.specs.Records.{bought}
-use Rattle.paper.specs.Refusals.{instrument_fits, position_fits}
 use Rattle.paper.specs.Products.{move, mark_one, mark_of}
 use Rattle.amount.proofs.Ints.{back}
 use Rattle.vector.proofs.Signs.{size_fits, read_nat}

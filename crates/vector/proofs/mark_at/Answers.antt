@@ -1,4 +1,4 @@
-use Rattle.std.proofs.Common.{◌≡◌, ◌∙◌, ◌+◌, ◌*◌, ◌≤◌, length, arith, rules}
+use Rattle.std.proofs.Common.{arith}
 use Rattle.vector.proofs.Book.{book, position_fits_lem}
 use Rattle.vector.proofs.mark_at.Goals as goal
 

@@ -1,4 +1,4 @@
-use Rattle.std.proofs.Common.{◌≡◌, ◌∙◌, sym, pos, arith}
+use Rattle.std.proofs.Common.{◌∙◌, sym, arith}
 use Rattle.vector.proofs.Signs.{read_back}
 use Rattle.vector.proofs.Rounding.{nearest_whole}
 use Rattle.vector.proofs.mark_of_one.Goals as goal

@@ -1,6 +1,6 @@
-use Rattle.std.proofs.Common.{◌≡◌, ◌∙◌, ap, ℕ, ◌-◌, ℤ, pos, length, take, arith, rules}
+use Rattle.std.proofs.Common.{◌≡◌, ◌∙◌, ap, ◌-◌, pos, length, take, arith}
 use lib.Seq.{take_at}
-use Rattle.paper.specs.Sums.{listed, lowest}
+use Rattle.paper.specs.Sums.{listed}
 use Rattle.paper.specs.Products.{amount_at, naked_of}
 use Rattle.amount.proofs.Ints.{back}
 use Rattle.amount.proofs.Lists.{listed_length, listed_at}

@@ -1,4 +1,4 @@
-use Rattle.std.proofs.Common.{arith, rules}
+use Rattle.std.proofs.Common.{arith}
 use Rattle.vector.proofs.Book.{book, points_of, net_part}
 use Rattle.vector.proofs.naked_at.Goals as goal
 

@@ -1,4 +1,4 @@
-use Rattle.std.proofs.Common.{◌≡◌, ◌∙◌, ap, ◌+◌, arith, rules}
+use Rattle.std.proofs.Common.{◌∙◌, ap, ◌+◌, arith}
 use lib.IntN.{+ℤ_idr}
 use Rattle.paper.specs.Sums.{sum}
 use Rattle.paper.specs.Products.{naked_total}

@@ -1,10 +1,10 @@
-use Rattle.std.proofs.Common.{◌≡◌, ◌∙◌, ap₂, arith, pos, ◌-ℤ◌, ◌*ℤ◌, ◌*◌, to_z, of_z}
+use Rattle.std.proofs.Common.{◌≡◌, ◌∙◌, ap₂, arith, ◌-ℤ◌, ◌*ℤ◌, ◌*◌, to_z, of_z}
 use Rattle.std.specs.Int.{w64}
 use Rattle.paper.specs.Products.{shift}
 use Rattle.amount.proofs.Ints.{back}
 use Rattle.vector.proofs.Signs.{size_fits, read_back, read_nat}
 use Rattle.vector.proofs.Ranges.{fit, widest}
-use Rattle.vector.proofs.Bounds.{off_size, shift_most}
+use Rattle.vector.proofs.Bounds.{shift_most}
 use Rattle.vector.proofs.shift.Goals as goal
 
 -- the two factors, read back

@@ -1,4 +1,4 @@
-use Rattle.std.proofs.Common.{◌≡◌, ◌∙◌, sym, ◌<◌, arith}
+use Rattle.std.proofs.Common.{◌∙◌, sym, ◌<◌, arith}
 use Rattle.book.proofs.Verdicts.{stands}
 use Rattle.book.proofs.tests.range_finding.Goals as goal
 
