@@ -1,14 +1,13 @@
--- How far standard input is read. Which bytes come, and how many, is the system's to say.
-use Rattle.std.specs.Prelude.{◌≡◌, true, false, cond, ◌||◌, ℕ, ◌+◌, ◌≤◌, min, eqb, ℤ}
-use Rattle.std.specs.Int.Signed.{non_neg}
-use Rattle.io.specs.Counts.{clamp_len}
+-- How far an input is read. Which bytes come, and how many, is the system's to say.
+use Rattle.std.specs.Prelude.{◌≡◌, true, false, cond, ◌||◌, ℕ, ◌+◌, ◌≤◌, min, eqb, Result, Ok, Err}
 use Rattle.intake.specs.declared.Came.{Came}
 use Rattle.intake.specs.declared.Came.TheVariants.{Bytes, End, Failed}
 use Rattle.intake.specs.declared.Input.{Input}
 
--- what a read's answer means, where there was room for so many bytes: below zero it failed, and no byte is the end
-abbrev pub came_of : ℤ → ℕ → Came
-came_of got room = let bytes = clamp_len got room in cond (non_neg got) (cond (eqb bytes 0) End (Bytes bytes)) Failed
+-- what a read's answer means, where there was room for so many bytes: an error is a failure, and no byte is the end
+abbrev pub came_of : {E : Type 0} → Result ℕ E → ℕ → Came
+came_of (Ok n) room = let bytes = min n room in cond (eqb bytes 0) End (Bytes bytes)
+came_of (Err e) room = Failed
 
 -- a read brings no more than there is room for
 abbrev pub Within : ℕ → Came → Type 0

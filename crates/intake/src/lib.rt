@@ -1,4 +1,4 @@
-// Standard input, to its end: the first bytes are kept, the others are counted.
+// An input, to its end: the first bytes are kept, the others are counted.
 #![tactic(auto)]
 
 ghost use Rattle.std.specs.Prelude.{◌≡◌, ℕ, ◌+◌, ◌*◌, ◌≤◌, ◌<◌, min, length, take};
@@ -6,10 +6,11 @@ ghost use Rattle.paper.specs.Listing.{kept_bytes};
 ghost use Rattle.intake.specs.declared.Came.TheVariants.{Bytes};
 ghost use Rattle.intake.specs.Input.{came_of, Within, nothing_read, after as after_of, Next, closed as closed_of, ReadTo};
 
-use libc::STDIN_FILENO;
+use std::io;
+use std::io::Read;
 
 // What one read brought.
-#[derive(Drop)]
+#[derive(Clone, Copy)]
 pub enum Came {
     Bytes(usize),
     End,
@@ -17,7 +18,7 @@ pub enum Came {
 }
 
 // How far the input is read: how many bytes are kept, how many came in all, and whether more may come.
-#[derive(Drop)]
+#[derive(Clone, Copy)]
 pub struct Input {
     pub kept: usize,
     pub whole: usize,
@@ -93,13 +94,13 @@ fn least(a: usize, b: usize) -> usize
 }
 
 // What a read's answer means, of a read into that buffer.
-fn meaning(got: isize, buffer: &[u8]) -> Came
+fn meaning(got: io::Result<usize>, buffer: &[u8]) -> Came
     ensures { (result ≡ came_of got (length buffer.now)) × Within (length buffer.now) result }
 {
-    if got < 0 {
+    let Ok(n) = got else {
         return Came::Failed;
-    }
-    let bytes = io::count(got, buffer);
+    };
+    let bytes = least(n, buffer.len());
     if bytes == 0 {
         return Came::End;
     }
@@ -107,40 +108,40 @@ fn meaning(got: isize, buffer: &[u8]) -> Came
 }
 
 // One read. Into a buffer without room nothing comes, which would not be the end.
-fn come(buffer: &mut [u8]) -> Came
+fn come<R: Read>(from: &mut R, buffer: &mut [u8]) -> Came
     requires { 0 < length buffer.old }
     ensures { Within (length buffer.old) result }
 {
-    let got = libc::read(STDIN_FILENO, buffer);
+    let got = from.read(buffer);
     meaning(got, buffer)
 }
 
 // One read into the room that is left or, where there is none, past it. What was kept before stays as it is.
-fn next(kept: &mut [u8], input: Input) -> Input
+fn next<R: Read>(from: &mut R, kept: &mut [u8], input: Input) -> Input
     requires { (length kept.old ≡ kept_bytes) × (input.kept ≡ min kept_bytes input.whole) × (input.whole ≤ 4000000000000000000) }
     ensures { Next kept_bytes input result × (take input.kept kept.new ≡ take input.kept kept.old) }
 {
     let at = input.kept;
     let room = kept.len();
     if at < room {
-        let more = come(&mut kept[at..]);
+        let more = come(from, &mut kept[at..]);
         return input.after(room, more);
     }
     let mut passed = [0u8; 4096];
-    let more = come(&mut passed);
+    let more = come(from, &mut passed);
     input.after(room, more)
 }
 
-// Reads standard input to its end or to a failure, keeping what the buffer holds and counting the rest. One that goes on and on
-// counts as failed.
-pub fn read(kept: &mut [u8]) -> Input
+// Reads an input to its end or to a failure, keeping what the buffer holds and counting the rest. One that goes on and on counts
+// as failed.
+pub fn read<R: Read>(from: &mut R, kept: &mut [u8]) -> Input
     requires { length kept.old ≡ kept_bytes }
     ensures { ReadTo kept_bytes result }
 {
     let mut input = Input::none();
     let mut turns: u64 = 1_000_000_000_000;
     while 0 < turns {
-        input = next(kept, input);
+        input = next(from, kept, input);
         let going = input.going;
         if !going {
             return input;

@@ -1,5 +1,5 @@
 -- What a text reads as: an optional "-", digits, a point and two digits, of an amount that an i64 holds.
-use Rattle.std.specs.Prelude.{Bool, cond, ◌&&◌, List, [], ◌∷◌, ℕ, suc, ◌+◌, ◌-◌, ◌*◌, ◌^◌, eqb, leb, ltb, ℤ, pos, neg_ℤ, length, get_or}
+use Rattle.std.specs.Prelude.{cond, ◌&&◌, List, [], ◌∷◌, ℕ, suc, ◌+◌, ◌-◌, ◌*◌, ◌^◌, eqb, leb, ltb, pos, neg_ℤ, length, get_or}
 use Rattle.std.proofs.Math.Seq.{slice}
 use Rattle.kroner.specs.declared.Reading.{Reading}
 use Rattle.kroner.specs.declared.Reading.TheVariants.{Amount, Unreadable}

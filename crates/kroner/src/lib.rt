@@ -101,6 +101,7 @@ fn signed(size: u64, sign: usize) -> Reading
 }
 
 // The amount that a text writes: an optional "-", digits, a point and two digits.
+#[tactic(auto, using(crate::proofs::Back::read_short, crate::proofs::Back::read_pointless, crate::proofs::Back::read_is))]
 pub fn read(text: &[u8]) -> Reading
     ensures { result ≡ read_of text.now }
 {

@@ -32,6 +32,12 @@ pub one_field : (t : Text) (f : List ℕ) (fs : List (List ℕ)) → t ≡ right
 unfolding fields
 one_field t f fs e = ap (λ (s : List ℕ). right (32 ∷ (f ++ s))) (shows (fields fs) e)
 
+pub next_field : {r t : Text} (f : List ℕ) (fs : List (List ℕ)) → t ≡ right (fields fs) → r ≡ right (32 ∷ (f ++ shown t)) → r ≡ right (fields (f ∷ fs))
+next_field {t = t} f fs e g = g ∙ one_field t f fs e
+
+pub last_field : {r t : Text} (f : List ℕ) → t ≡ right (10 ∷ []) → r ≡ right (32 ∷ (f ++ shown t)) → r ≡ right (fields (f ∷ []))
+last_field f e g = next_field f [] (e ∙ no_fields) g
+
 pub field_length : (f : List ℕ) (fs : List (List ℕ)) → length (fields (f ∷ fs)) ≡ 1 + length f + length (fields fs)
 unfolding fields
 field_length f fs = ap suc (length-append f (fields fs)) ∙ omega arith

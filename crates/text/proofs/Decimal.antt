@@ -1,13 +1,12 @@
 -- Laws of decimal digits, and of texts at the right end of their bytes. Assumes nothing.
 use mathlib.Core.Path.{◌≡◌, refl, sym, ap, ◌∙◌}
 use mathlib.Core.List.{List, [], ◌∷◌, ◌++◌, append_assoc}
-use Prim.Native.Nat.{ℕ, zero, suc, ◌+◌, ◌-◌, ◌*◌, ◌/◌, ◌%◌, ◌^◌, ◌≤◌, ◌<◌}
+use Prim.Native.Nat.{ℕ, zero, suc, ◌-◌, ◌/◌, ◌^◌, ◌≤◌, ◌<◌}
 use native.Mathlib.Omega.{arith}
 use native.Mathlib.Decide.{dec_lt}
 use borrow.Author.Tests.{lt-ltb, le-ltb}
-use lib.Dec.{ltb}
-use lib.ListN.{length, drop, set, replicate, length-append, length-replicate}
-use lib.Seq.{drop_at, set_at, append_snoc}
+use lib.ListN.{length, set, replicate, length-append, length-replicate}
+use lib.Seq.{drop_at}
 use Rattle.paper.specs.Listing.{digit, digits, decimal}
 use Rattle.text.specs.declared.Text.{Text}
 use Rattle.text.specs.Text.{room, right, shown, in_front}

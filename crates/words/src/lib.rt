@@ -22,6 +22,7 @@ fn of_record(place: usize, kind: u8, meaning: &[u8]) -> Text
 }
 
 // The line of a book, by its whole records.
+#[tactic(auto, unfolding(crate::specs::Words::bytes))]
 fn of_book(place: usize, meaning: &[u8]) -> Text
     requires { length meaning.now ≤ 44 }
     ensures { result ≡ right (book_line place meaning.now) }
@@ -30,6 +31,7 @@ fn of_book(place: usize, meaning: &[u8]) -> Text
 }
 
 // The line of a refusal. The kind is the rank of the record's, and 0 where it has none.
+#[tactic(auto, unfolding(crate::specs::Words::bytes))]
 pub fn refusal(f: Fault, place: usize, kind: u8) -> Text
     ensures { result ≡ right (refusal_line f place kind) }
 {
