@@ -13,7 +13,7 @@ ghost use Rattle.margin.specs.Items.{item_for, item_of, item_mark_for, item_mark
 use paper::{Answer, Fault, Shape, Totals, Verdict};
 
 // An amount of an item, where there is such an item.
-#[derive(Drop)]
+#[derive(Clone, Copy)]
 pub enum Item {
     Amount(i64),
     Nothing,

@@ -13,7 +13,7 @@ use Rattle.paper.specs.Windows.{lowest_near}
 use Rattle.amount.proofs.Lists.{row_end, listed_length, listed_at}
 use Rattle.window.specs.Slides.{entry_of, slid_at, slid}
 use Rattle.window.proofs.Near.{near_cong}
-use Rattle.tree.specs.Buffers.{rows_in, RowWithin, part_of, with_row, over}
+use Rattle.tree.specs.Buffers.{rows_in, RowWithin, part_of, with_row}
 
 pub listed_cong : {A : Type 0} (n : ℕ) {f g : ℕ → A} → ((k : ℕ) → k < n → f k ≡ g k) → listed n f ≡ listed n g
 unfolding listed
@@ -25,6 +25,10 @@ pub listed_entries : (v : List ℤ) → listed (length v) (entry_of v) ≡ v
 listed_entries v =
     let l = listed_length (length v) (entry_of v) in
     ext_get_or (pos 0) _ _ l (λ x h. listed_at (length v) x (entry_of v) (pos 0) (omega arith))
+
+-- the first entries of a working array that holds a function's values there
+pub first_listed : (p : ℕ) (f : ℕ → ℤ) (work rest : List ℤ) → work ≡ listed p f ++ rest → take p work ≡ listed p f
+first_listed p f work rest e = rw e (take_at (listed p f) rest p (listed_length p f))
 
 -- the lowest entry within reach, in the list of a function's values
 pub near_listed : (p : ℕ) (f : ℕ → ℤ) (r x : ℕ) → x < p → lowest_near p (entry_of (listed p f)) r x ≡ lowest_near p f r x
