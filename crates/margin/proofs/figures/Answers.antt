@@ -1,0 +1,39 @@
+use Rattle.std.proofs.Common.{◌≡◌, ◌∙◌, ℤ, arith}
+use lib.IntN.{+ℤ_idl}
+use Rattle.paper.specs.Answers.{walk_of, add_mark, add_naked, add_cross, no_totals}
+use Rattle.tree.proofs.Filled.{rows_read}
+use Rattle.tree.proofs.Read.{cross_held}
+use Rattle.tree.proofs.Book.{valid}
+use Rattle.margin.proofs.figures.Goals as goal
+
+-- one amount on top of each zero
+summed : (mark naked cross same : ℤ) → cross ≡ same → add_cross (add_naked (add_mark no_totals mark) naked) cross ≡ record { mark = mark; naked = naked; cross = same }
+summed mark naked cross same e = λ i. record { mark = +ℤ_idl mark i; naked = +ℤ_idl naked i; cross = (+ℤ_idl cross ∙ e) i }
+
+pub cross-totals-requires : goal.cross-totals-requires
+cross-totals-requires c =
+    let a = c.args in (
+      c.requires.0,
+      omega arith,
+      rows_read (walk_of a.book.now a.s) c.fill_rows.new.rows a.rows.now c.fill_rows.ensures,
+      rw (c.nakeds-bare.ensures, c.marks-marked.ensures, c.none.ensures) (omega arith),
+    )
+
+pub choose-requires : goal.choose-requires
+choose-requires c =
+    let a = c.args in
+    (c.requires.0, omega arith, rows_read (walk_of a.book.now a.s) c.fill_rows.new.rows a.rows.now c.fill_rows.ensures, c.requires.2)
+
+pub returns : goal.returns
+returns c =
+    let a = c.args in
+    let b = a.book.now in
+    let w = walk_of b a.s in
+    let held = rows_read w c.fill_rows.new.rows a.rows.now c.fill_rows.ensures in
+    record {
+      totalled = c.cross-totals.ensures
+          ∙ rw (c.nakeds-bare.ensures, c.marks-marked.ensures, c.none.ensures)
+          (summed _ _ _ _ (cross_held w.tree (valid b a.s c.requires.0) c.fill_rows.new.rows held));
+      rows_hold = c.fill_rows.ensures;
+      choice_holds = c.choose.ensures;
+    }
