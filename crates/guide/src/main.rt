@@ -2,100 +2,100 @@
 // two books: 1000 bought of CFRAU9 and 700 sold of CFRAH9, and 100 of MBFH9 bought today at 101.8.
 #![tactic(auto)]
 
-use libc::{STDIN_FILENO, STDOUT_FILENO};
 use margin::Item;
 use paper::Answer;
+use std::io::Read;
 use text::Text;
 
 // The bytes of a text.
-fn show_from(bytes: &[u8], from: usize) {
+fn show_from(out: &impl Print, bytes: &[u8], from: usize) {
     if from <= bytes.len() {
-        io::write_all(STDOUT_FILENO, &bytes[from..]);
+        let _ = out.write_all(&bytes[from..]);
     }
 }
 
 // A name, a number and an amount.
-fn show(name: &[u8], k: usize, t: Text) {
-    io::write_all(STDOUT_FILENO, name);
-    io::print_decimal(STDOUT_FILENO, k as u64);
-    io::write_all(STDOUT_FILENO, b" ");
-    show_amount(t);
+fn show(out: &impl Print, name: &[u8], k: usize, t: Text) {
+    let _ = out.write_all(name);
+    let _ = out.print(k);
+    let _ = out.write_all(b" ");
+    show_amount(out, t);
 }
 
-fn show_amount(t: Text) {
+fn show_amount(out: &impl Print, t: Text) {
     let bytes = t.bytes;
-    show_from(&bytes, t.from);
-    io::write_all(STDOUT_FILENO, b"\n");
+    show_from(out, &bytes, t.from);
+    let _ = out.write_all(b"\n");
 }
 
 // An instrument's amounts at all points.
-fn show_vector(name: &[u8], book: &[u8], i: usize) {
+fn show_vector(out: &impl Print, name: &[u8], book: &[u8], i: usize) {
     let mut point = 0;
     while point < 31 {
         match margin::item_at(book, i, point) {
-            Item::Amount(z) => show(name, point, kroner::write(z)),
+            Item::Amount(z) => show(out, name, point, kroner::write(z)),
             Item::Nothing => {}
         }
         point += 1;
     }
 }
 
-fn show_row(name: &[u8], row: &[i64]) {
+fn show_row(out: &impl Print, name: &[u8], row: &[i64]) {
     let mut point = 0;
     while point < row.len() {
-        show(name, point, kroner::write(row[point]));
+        show(out, name, point, kroner::write(row[point]));
         point += 1;
     }
 }
 
 // The class's row after a run.
-fn show_result(book: &[u8]) {
+fn show_result(out: &impl Print, book: &[u8]) {
     let mut rows = [0i64; 31];
     let mut choice = [0u16; 3];
     match margin::run(book, &mut rows, &mut choice) {
-        Answer::Accepted(_) => show_row(b"RESULT ", &rows),
+        Answer::Accepted(_) => show_row(out, b"RESULT ", &rows),
         Answer::Refused(_, _) => {}
     }
 }
 
 // The open margin and the mark-to-market amount.
-fn show_totals(book: &[u8]) {
+fn show_totals(out: &impl Print, book: &[u8]) {
     let mut rows = [0i64; 31];
     let mut choice = [0u16; 2];
     let totals = margin::run(book, &mut rows, &mut choice).totals();
-    io::write_all(STDOUT_FILENO, b"MBFH9 MARGIN ");
-    show_amount(kroner::write(totals.cross));
-    io::write_all(STDOUT_FILENO, b"MBFH9 MARK ");
-    show_amount(kroner::write(totals.mark));
+    let _ = out.write_all(b"MBFH9 MARGIN ");
+    show_amount(out, kroner::write(totals.cross));
+    let _ = out.write_all(b"MBFH9 MARK ");
+    show_amount(out, kroner::write(totals.mark));
 }
 
 // An instrument's mark-to-market amount, where there is such an instrument.
-fn show_mark(book: &[u8], i: usize) {
+fn show_mark(out: &impl Print, book: &[u8], i: usize) {
     match margin::item_mark(book, i) {
-        Item::Amount(z) => show(b"MARK ", i, kroner::write(z)),
+        Item::Amount(z) => show(out, b"MARK ", i, kroner::write(z)),
         Item::Nothing => {}
     }
 }
 
-fn show_fra(book: &[u8]) {
-    show_vector(b"CFRAU9 ", book, 0);
-    show_vector(b"CFRAH9 ", book, 1);
-    show_result(book);
-    show_mark(book, 0);
-    show_mark(book, 1);
-    show_mark(book, 2);
+fn show_fra(out: &impl Print, book: &[u8]) {
+    show_vector(out, b"CFRAU9 ", book, 0);
+    show_vector(out, b"CFRAH9 ", book, 1);
+    show_result(out, book);
+    show_mark(out, book, 0);
+    show_mark(out, book, 1);
+    show_mark(out, book, 2);
 }
 
 // Five records, then three.
-fn show_tables(books: &[u8]) {
+fn show_tables(out: &impl Print, books: &[u8]) {
     if books.len() == 256 {
-        show_fra(&books[0..160]);
-        show_totals(&books[160..256]);
+        show_fra(out, &books[0..160]);
+        show_totals(out, &books[160..256]);
     }
 }
 
-fn main() {
+fn main(rt: HostRuntime) {
     let mut books = [0u8; 256];
-    io::read_full(STDIN_FILENO, &mut books);
-    show_tables(&books);
+    let _ = rt.stdin().read_exact(&mut books);
+    show_tables(&rt, &books);
 }

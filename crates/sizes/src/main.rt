@@ -5,16 +5,15 @@
 
 ghost use Rattle.std.specs.Prelude.{◌+◌, ◌<◌, ◌≤◌};
 
-use libc::STDOUT_FILENO;
 use paper::{Answer, Totals};
 
-fn main() {
-    lengths();
-    numbers();
-    two_faults();
-    counts();
-    runs();
-    full_runs();
+fn main(rt: HostRuntime) {
+    lengths(&rt);
+    numbers(&rt);
+    two_faults(&rt);
+    counts(&rt);
+    runs(&rt);
+    full_runs(&rt);
 }
 
 // Bytes of a root of 3 points (kind 0), a future in class 0 (1), or a contract of instrument 0 bought and carried (2).
@@ -42,36 +41,36 @@ fn filled(classes: usize, instruments: usize, positions: usize) -> [u8; 11040]
     book
 }
 
-fn word(text: &[u8]) {
-    io::write_all(STDOUT_FILENO, text);
+fn word(out: &impl Print, text: &[u8]) {
+    let _ = out.write_all(text);
 }
 
-fn number(n: usize) {
-    word(b" ");
-    io::print_decimal(STDOUT_FILENO, n as u64);
+fn number(out: &impl Print, n: usize) {
+    word(out, b" ");
+    let _ = out.print(n);
 }
 
-fn name(classes: usize, instruments: usize, positions: usize) {
-    word(b"classes");
-    number(classes);
-    word(b" instruments");
-    number(instruments);
-    word(b" positions");
-    number(positions);
+fn name(out: &impl Print, classes: usize, instruments: usize, positions: usize) {
+    word(out, b"classes");
+    number(out, classes);
+    word(out, b" instruments");
+    number(out, instruments);
+    word(out, b" positions");
+    number(out, positions);
 }
 
-fn refused(code: u64, place: usize) {
-    word(b": refused");
-    number(code as usize);
-    number(place);
+fn refused(out: &impl Print, code: u64, place: usize) {
+    word(out, b": refused");
+    number(out, code as usize);
+    number(out, place);
 }
 
-fn ended(answer: Answer) {
+fn ended(out: &impl Print, answer: Answer) {
     let code = answer.code();
     if code == 0 {
-        word(b": accepted");
+        word(out, b": accepted");
     } else {
-        refused(code, answer.place());
+        refused(out, code, answer.place());
     }
 }
 
@@ -83,71 +82,71 @@ fn answer(book: &[u8]) -> Answer {
 }
 
 // The end of a line: what a run of the first n bytes answers.
-fn answer_on(book: [u8; 11040], n: usize)
+fn answer_on(out: &impl Print, book: [u8; 11040], n: usize)
     requires { n ≤ 11040 }
 {
-    ended(answer(&book[0..n]));
-    word(b"\n");
+    ended(out, answer(&book[0..n]));
+    word(out, b"\n");
 }
 
 // The first n bytes of a sound book of 9 records.
-fn length(n: usize)
+fn length(out: &impl Print, n: usize)
     requires { n ≤ 11040 }
 {
     let book = filled(2, 3, 4);
-    word(b"length");
-    number(n);
-    answer_on(book, n);
+    word(out, b"length");
+    number(out, n);
+    answer_on(out, book, n);
 }
 
-fn lengths() {
-    length(0);
-    length(1);
-    length(31);
-    length(32);
-    length(33);
-    length(287);
-    length(288);
+fn lengths(out: &impl Print) {
+    length(out, 0);
+    length(out, 1);
+    length(out, 31);
+    length(out, 32);
+    length(out, 33);
+    length(out, 287);
+    length(out, 288);
 }
 
-fn many(classes: usize, instruments: usize, positions: usize)
+fn many(out: &impl Print, classes: usize, instruments: usize, positions: usize)
     requires { classes + instruments + positions ≤ 345 }
 {
     let book = filled(classes, instruments, positions);
-    name(classes, instruments, positions);
-    answer_on(book, 32 * (classes + instruments + positions));
+    name(out, classes, instruments, positions);
+    answer_on(out, book, 32 * (classes + instruments + positions));
 }
 
-fn numbers() {
-    many(24, 0, 0);
-    many(25, 0, 0);
-    many(1, 64, 0);
-    many(1, 65, 0);
-    many(1, 1, 256);
-    many(1, 1, 257);
-    many(24, 64, 256);
-    many(24, 64, 257);
+fn numbers(out: &impl Print) {
+    many(out, 24, 0, 0);
+    many(out, 25, 0, 0);
+    many(out, 1, 64, 0);
+    many(out, 1, 65, 0);
+    many(out, 1, 1, 256);
+    many(out, 1, 1, 257);
+    many(out, 24, 64, 256);
+    many(out, 24, 64, 257);
 }
 
 // A book that ends with that record, in which one byte is written over.
-fn faults(what: &[u8], book: [u8; 11040], last: usize, offset: usize, byte: u8)
+fn faults(out: &impl Print, what: &[u8], book: [u8; 11040], last: usize, offset: usize, byte: u8)
     requires { (last < 345) × (offset < 32) }
 {
     let mut damaged = book;
     damaged[32 * last + offset] = byte;
-    word(what);
-    word(b" in record");
-    number(last);
-    answer_on(damaged, 32 * last + 32);
+    word(out, what);
+    word(out, b" in record");
+    number(out, last);
+    answer_on(out, damaged, 32 * last + 32);
 }
 
 // Two faults in one record, one of them its number: the earlier code is given.
-fn two_faults() {
-    faults(b"limit and reserved", filled(25, 0, 0), 24, 8, 1);
-    faults(b"limit and reference", filled(25, 0, 0), 24, 3, 0);
-    faults(b"limit and range", filled(24, 65, 0), 88, 1, 4);
-    faults(b"limit and reference", filled(24, 64, 257), 344, 2, 64);
-    faults(b"order and limit", filled(24, 2, 0), 25, 0, 67);
+fn two_faults(out: &impl Print) {
+    faults(out, b"limit and reserved", filled(25, 0, 0), 24, 8, 1);
+    faults(out, b"limit and reference", filled(25, 0, 0), 24, 3, 0);
+    faults(out, b"limit and range", filled(24, 65, 0), 88, 1, 4);
+    faults(out, b"limit and reference", filled(24, 64, 257), 344, 2, 64);
+    faults(out, b"order and limit", filled(24, 2, 0), 25, 0, 67);
 }
 
 fn answer_counted(kept: &[u8], size: usize) -> Answer {
@@ -157,25 +156,25 @@ fn answer_counted(kept: &[u8], size: usize) -> Answer {
 }
 
 // So many bytes kept of a sound book of 9 records, and so many counted: what was cut has no figures.
-fn counted(kept: usize, size: usize)
+fn counted(out: &impl Print, kept: usize, size: usize)
     requires { kept ≤ 11040 }
 {
     let book = filled(2, 3, 4);
-    word(b"kept");
-    number(kept);
-    word(b" of");
-    number(size);
-    ended(answer_counted(&book[0..kept], size));
-    word(b"\n");
+    word(out, b"kept");
+    number(out, kept);
+    word(out, b" of");
+    number(out, size);
+    ended(out, answer_counted(&book[0..kept], size));
+    word(out, b"\n");
 }
 
-fn counts() {
-    counted(288, 288);
-    counted(0, 0);
-    counted(0, 12_800);
-    counted(256, 288);
-    counted(288, 256);
-    counted(288, 289);
+fn counts(out: &impl Print) {
+    counted(out, 288, 288);
+    counted(out, 0, 0);
+    counted(out, 0, 12_800);
+    counted(out, 256, 288);
+    counted(out, 288, 256);
+    counted(out, 288, 289);
 }
 
 fn one(changed: bool) -> usize
@@ -201,83 +200,91 @@ fn choice_written(choice: &[u16]) -> usize {
     n
 }
 
-fn written(rows: usize, choice: usize) {
+fn written(out: &impl Print, rows: usize, choice: usize) {
     if (rows == 0) & (choice == 0) {
-        word(b", untouched\n");
+        word(out, b", untouched\n");
         return;
     }
-    word(b", written");
-    number(rows);
-    number(choice);
-    word(b"\n");
+    word(out, b", written");
+    number(out, rows);
+    number(out, choice);
+    word(out, b"\n");
 }
 
-fn totals(t: Totals) {
+fn totals(out: &impl Print, t: Totals) {
     if (t.mark == 0) & (t.naked == 0) & (t.cross == 0) {
-        word(b", totals zero");
+        word(out, b", totals zero");
     } else {
-        word(b", totals not zero");
+        word(out, b", totals not zero");
     }
 }
 
-fn told(answer: Answer) {
-    ended(answer);
-    totals(answer.totals());
+fn told(out: &impl Print, answer: Answer) {
+    ended(out, answer);
+    totals(out, answer.totals());
 }
 
 // The end of a line: what a run answers and writes.
-fn run_on(book: &[u8], rows: &mut [i64], choice: &mut [u16]) {
-    told(margin::run(book, rows, choice));
-    written(rows_written(rows), choice_written(choice));
+fn run_on(out: &impl Print, book: &[u8], rows: &mut [i64], choice: &mut [u16]) {
+    told(out, margin::run(book, rows, choice));
+    written(out, rows_written(rows), choice_written(choice));
 }
 
-fn buffers(rows: usize, choice: usize) {
-    word(b" rows");
-    number(rows);
-    word(b" choice");
-    number(choice);
+fn buffers(out: &impl Print, rows: usize, choice: usize) {
+    word(out, b" rows");
+    number(out, rows);
+    word(out, b" choice");
+    number(out, choice);
 }
 
 // A run lent so many entries of buffers that hold the mark.
-fn lend(book: &[u8], rows: usize, choice: usize)
+fn lend(out: &impl Print, book: &[u8], rows: usize, choice: usize)
     requires { (rows ≤ 73) × (choice ≤ 89) }
 {
     let mut marked_rows = [7i64; 73];
     let mut marked_choice = [7u16; 89];
-    buffers(rows, choice);
+    buffers(out, rows, choice);
     run_on(
+        out,
         book,
         &mut marked_rows[0..rows],
         &mut marked_choice[0..choice],
     );
 }
 
-fn run(classes: usize, instruments: usize, positions: usize, rows: usize, choice: usize)
+fn run(
+    out: &impl Print,
+    classes: usize,
+    instruments: usize,
+    positions: usize,
+    rows: usize,
+    choice: usize,
+)
     requires { (classes + instruments + positions ≤ 345) × (rows ≤ 73) × (choice ≤ 89) }
 {
     let book = filled(classes, instruments, positions);
     let n = 32 * (classes + instruments + positions);
-    name(classes, instruments, positions);
-    lend(&book[0..n], rows, choice);
+    name(out, classes, instruments, positions);
+    lend(out, &book[0..n], rows, choice);
 }
 
 // Rows need 6 entries and the choice 5; an empty book needs none.
-fn runs() {
-    run(2, 3, 4, 5, 5);
-    run(2, 3, 4, 6, 5);
-    run(2, 3, 4, 6, 4);
-    run(2, 3, 4, 5, 4);
-    run(2, 3, 4, 0, 0);
-    run(2, 3, 4, 7, 6);
-    run(0, 0, 0, 0, 0);
-    run(0, 0, 0, 1, 1);
+fn runs(out: &impl Print) {
+    run(out, 2, 3, 4, 5, 5);
+    run(out, 2, 3, 4, 6, 5);
+    run(out, 2, 3, 4, 6, 4);
+    run(out, 2, 3, 4, 5, 4);
+    run(out, 2, 3, 4, 0, 0);
+    run(out, 2, 3, 4, 7, 6);
+    run(out, 0, 0, 0, 0, 0);
+    run(out, 0, 0, 0, 1, 1);
 }
 
 // Rows need 72 entries and the choice 88; a record's fault comes before the buffers'.
-fn full_runs() {
-    run(24, 64, 256, 71, 88);
-    run(24, 64, 256, 72, 87);
-    run(24, 64, 256, 71, 87);
-    run(24, 64, 256, 72, 88);
-    run(24, 64, 257, 0, 0);
+fn full_runs(out: &impl Print) {
+    run(out, 24, 64, 256, 71, 88);
+    run(out, 24, 64, 256, 72, 87);
+    run(out, 24, 64, 256, 71, 87);
+    run(out, 24, 64, 256, 72, 88);
+    run(out, 24, 64, 257, 0, 0);
 }
