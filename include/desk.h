@@ -1,5 +1,4 @@
-/* The margin desk's call, for C and C++. Link libdesk.a: `rt staticlib desk` writes target/staticlib/libdesk.a for x86-64 Linux,
- * `tools/native` writes target/native/libdesk.a for the processor at hand.
+/* The margin desk's call, for C and C++. Link libdesk.a: `tools/native` writes target/native/libdesk.a for x86-64 Linux.
  *
  * Nothing is to be checked first: any book and buffers of any length are answered. The book, the two buffers and the five
  * numbers must not overlap; a pointer of length 0 is not read. Rows of 24 * 201 entries and a choice of 24 + 64 are enough for

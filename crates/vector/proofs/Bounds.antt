@@ -20,7 +20,9 @@ use Rattle.paper.specs.Products as paper
 use Rattle.paper.specs.Products.{shift, rising, falling, times_net, amount_at, naked_of, move, mark_one, mark_of}
 use Rattle.amount.proofs.Ints.{ints, plus, neg, sign, abs}
 use Rattle.amount.proofs.Lowest.{lowest_is}
-use Rattle.vector.proofs.Signs.{size_neg, size_plus, size_times, times_one}
+use mir.Syntax.{w64}
+use mir.Val.{SFits, to_z, of_z}
+use Rattle.vector.proofs.Signs.{size_neg, size_plus, size_times, times_one, size_fits, read_back}
 use Rattle.vector.proofs.Rounding.{nearest_within}
 use Rattle.vector.proofs.Ranges.{UpTo, Ranges, Fit, fra, future, bond, fit, widest, wider, Holds, holds}
 
@@ -227,3 +229,18 @@ mark_size x p f g =
     let one : ℤ = mark_one x (move x p) in
     rw (size_times (cond (bought p) one (neg_ℤ one)) (pos p.quantity), side_size (bought p) one)
     (mul-le-mul_right p.quantity (mark_one_size x p (fit x f) g))
+
+-- a difference of two fixings, or of a fixing and a price, fits as the code reads their bits
+less_fits : (a b : ℤ) → UpTo 200000000 a → UpTo 200000000 b → SFits w64 (to_z w64 (of_z w64 a) -ℤ to_z w64 (of_z w64 b))
+less_fits a b u w =
+    rw (read_back a (omega (arith, u.most)), read_back b (omega (arith, w.most)))
+    (size_fits (a -ℤ b) (omega (arith, less_size 200000000 a b u w)))
+
+pub since_trade :
+    (x : Instrument) (p : Position) → instrument_fits x ≡ true → position_fits p x.product ≡ true →
+    SFits w64 (to_z w64 (of_z w64 x.today) -ℤ to_z w64 (of_z w64 p.price))
+since_trade x p f g = less_fits x.today p.price (widest (fit x f)).today (any_price x p (fit x f) g).price
+
+pub since_fixing :
+    (x : Instrument) → instrument_fits x ≡ true → SFits w64 (to_z w64 (of_z w64 x.today) -ℤ to_z w64 (of_z w64 x.before))
+since_fixing x f = less_fits x.today x.before (widest (fit x f)).today (widest (fit x f)).before

@@ -146,6 +146,7 @@ fn turned(gains: bool, z: i64) -> i64
 }
 
 // How far the fixing moved: from the contracted price if traded today, else from the fixing before.
+#[tactic(auto, using(crate::proofs::Bounds::since_trade, crate::proofs::Bounds::since_fixing))]
 fn moved(x: Instrument, p: Position) -> i64
     requires { (instrument_fits x ≡ true) × (position_fits p x.product ≡ true) }
     ensures { result ≡ move x p }
