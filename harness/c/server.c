@@ -1,4 +1,4 @@
-/* Answers questions over standard input and output through the C header, so that a program for another processor can ask.
+/* Answers questions over standard input and output through the C header.
  *
  * A question begins with a 64-bit word for the operation, and what that operation takes follows. One function answers each
  * operation. Where the input is torn, a length passes the room here, an entry beside a lent buffer was touched, an answer can't

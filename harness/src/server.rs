@@ -1,5 +1,5 @@
-//! The static library's calls, asked through a process that answers over its standard input and output (`c/server.c`), which
-//! runs on whatever processor the library is for.
+//! The static library's calls, asked by its C header, through a process that answers over its standard input and output
+//! (`c/server.c`).
 
 use std::io::{self, BufReader, Read, Write};
 use std::process::{Child, ChildStdin, ChildStdout, Command, ExitStatus, Stdio};

@@ -1,4 +1,4 @@
-//! The program under test: the static library for this processor, linked through its Rust package.
+//! The program under test: the static library, linked through its Rust package.
 
 /// Code, place, mark-to-market, naked and cross margin; the buffers are lent.
 pub fn run(book: &[u8], rows: &mut [i64], choice: &mut [u16]) -> [i64; 5] {

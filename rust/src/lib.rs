@@ -6,7 +6,7 @@
 //! [`Kroner`] shows them in kroner. Callers with memory of their own lend it to [`lent::run`].
 //!
 //! The calculation is the static library `libdesk.a`, which is proved against its contract;
-//! `tools/native` writes it for the processor at hand into `target/native`, where this package
+//! `tools/native` writes it into `target/native`, where this package
 //! looks for it. The environment's `DESK_LIBRARY` names another folder.
 //!
 //! # Example
