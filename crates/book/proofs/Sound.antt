@@ -233,6 +233,10 @@ sound_book b s h =
       position = sound_position b n a.clean;
     })
 
+-- its records lie within it
+pub records_within : (b : List ℕ) (s : Shape) → verdict_of b ≡ Sound s → 32 * (s.classes + s.instruments + s.positions) ≤ length b
+records_within b s h = let k = sound_book b s h in omega arith
+
 -- "a book longer than 344 is always refused"
 pub never_longer : (b : List ℕ) (s : Shape) → most_records < whole_records b → verdict_of b ≡ Sound s → ⊥
 never_longer b s long h =

@@ -107,6 +107,7 @@ pub fn run_counted(kept: &[u8], size: usize, rows: &mut [i64], choice: &mut [u16
 }
 
 // The amount of instrument i at a point of the scale.
+#[tactic(auto, using(book::proofs::Sound::records_within))]
 fn amount_of(book: &[u8], s: Shape, i: usize, point: usize) -> i64
     requires { (verdict_of book.now ≡ Sound s) × (i < s.instruments) × (point < s.points) }
     ensures { result ≡ (walk_of book.now s).tree.amount i point }

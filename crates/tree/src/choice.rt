@@ -14,6 +14,7 @@ use paper::Shape;
 
 // A child's point: the lowest-numbered one with its lowest entry within its parent's reach. A root's is chosen as a child's of
 // the middle point would be, with the whole scale in reach.
+#[tactic(auto, using(book::proofs::Sound::records_within))]
 fn class_point(book: &[u8], s: Shape, rows: &[i64], choice: &[u16], k: usize) -> u16
     requires { (verdict_of book.now ≡ Sound s) × (k < s.classes) × (s.classes * s.points ≤ length rows.now) × (s.classes ≤ length choice.now) × ((walk_of book.now s).tree.parent k ≢ root → class_point choice.now ((walk_of book.now s).tree.parent k) < s.points) }
     ensures { result ≡ choose_from (walk_of book.now s).tree (rows_in s.points rows.now) (class_point choice.now) k }
@@ -44,6 +45,7 @@ pub fn choose_classes(book: &[u8], s: Shape, rows: &[i64], choice: &mut [u16])
 }
 
 // The point of instrument i, from its class's point.
+#[tactic(auto, using(book::proofs::Sound::records_within))]
 fn item_point(book: &[u8], s: Shape, choice: &[u16], i: usize) -> u16
     requires { (verdict_of book.now ≡ Sound s) × (i < s.instruments) × (s.classes ≤ length choice.now) × (class_point choice.now ((walk_of book.now s).tree.home i) < s.points) }
     ensures { result ≡ chosen_near s.points ((walk_of book.now s).tree.amount i) ((walk_of book.now s).tree.reach ((walk_of book.now s).tree.home i)) (class_point choice.now ((walk_of book.now s).tree.home i)) }

@@ -17,6 +17,7 @@ mod row; // row.rt: one row in the buffer
 mod terms; // terms.rt: what the book fixes of a class and of an instrument
 
 // Class c adds to row k where k is its parent.
+#[tactic(auto, using(book::proofs::Sound::records_within))]
 fn add_class(book: &[u8], s: Shape, rows: &mut [i64], k: usize, c: usize)
     requires { (verdict_of book.now ≡ Sound s) × (k < s.classes) × (c < s.classes) × (s.classes * s.points ≤ length rows.old) × EachFits s.points (with_class (walk_of book.now s).tree rows.old k c) }
     ensures { rows.new ≡ with_row s.points rows.old k (with_class (walk_of book.now s).tree rows.old k c) }
@@ -41,6 +42,7 @@ fn slide_item(book: &[u8], s: Shape, rows: &mut [i64], k: usize, i: usize)
 }
 
 // Instrument i adds to row k where k is its class.
+#[tactic(auto, using(book::proofs::Sound::records_within))]
 fn add_item(book: &[u8], s: Shape, rows: &mut [i64], k: usize, i: usize)
     requires { (verdict_of book.now ≡ Sound s) × (k < s.classes) × (i < s.instruments) × (s.classes * s.points ≤ length rows.old) × EachFits s.points (with_item (walk_of book.now s).tree rows.old k i) }
     ensures { rows.new ≡ with_row s.points rows.old k (with_item (walk_of book.now s).tree rows.old k i) }
@@ -100,6 +102,7 @@ pub fn fill_rows(book: &[u8], s: Shape, rows: &mut [i64])
 }
 
 // A root adds its lowest result to the cross margin.
+#[tactic(auto, using(book::proofs::Sound::records_within))]
 fn with_class(book: &[u8], s: Shape, rows: &[i64], k: usize, t: Totals) -> Totals
     requires { (verdict_of book.now ≡ Sound s) × (k < s.classes) × (s.classes * s.points ≤ length rows.now) × SFits w64 (t.cross +ℤ from_root (walk_of book.now s).tree (rows_in s.points rows.now) k) }
     ensures { result ≡ add_cross t (from_root (walk_of book.now s).tree (rows_in s.points rows.now) k) }

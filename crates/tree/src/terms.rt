@@ -11,6 +11,7 @@ use paper::Shape;
 pub const ROOT: u16 = 65_535;
 
 // The reach of class k's window.
+#[tactic(auto, using(book::proofs::Sound::records_within))]
 pub fn reach_of(book: &[u8], s: Shape, k: usize) -> usize
     requires { (verdict_of book.now ≡ Sound s) × (k < s.classes) }
     ensures { result ≡ (walk_of book.now s).tree.reach k }
@@ -20,6 +21,7 @@ pub fn reach_of(book: &[u8], s: Shape, k: usize) -> usize
 }
 
 // The amounts of instrument i, in the first entries of the working array.
+#[tactic(auto, using(book::proofs::Sound::records_within))]
 pub fn fill_vector(book: &[u8], s: Shape, i: usize, work: &mut [i64])
     requires { (verdict_of book.now ≡ Sound s) × (i < s.instruments) × (s.points ≤ length work.old) }
     ensures { work.new ≡ listed s.points ((walk_of book.now s).tree.amount i) ++ drop s.points work.old }

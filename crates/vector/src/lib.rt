@@ -204,6 +204,7 @@ fn hold_of(held: Holding, p: Position, i: usize) -> Holding
 }
 
 // What a sound book's positions hold of instrument i.
+#[tactic(auto, using(book::proofs::Sound::records_within))]
 pub fn held(book: &[u8], s: Shape, i: usize) -> Holding
     requires { verdict_of book.now ≡ Sound s }
     ensures { result ≡ held_of (positions_of book.now s) i }
@@ -221,6 +222,7 @@ pub fn held(book: &[u8], s: Shape, i: usize) -> Holding
 }
 
 // The mark-to-market of position k of a sound book.
+#[tactic(auto, using(book::proofs::Sound::records_within))]
 fn mark_at(book: &[u8], s: Shape, k: usize) -> i64
     requires { (verdict_of book.now ≡ Sound s) × (k < s.positions) }
     ensures { result ≡ mark_at book.now s k }
@@ -247,6 +249,7 @@ pub fn marks(book: &[u8], s: Shape, t: Totals) -> Totals
 }
 
 // Position k's share of what instrument i is marked to market at: nothing where it names another.
+#[tactic(auto, using(book::proofs::Sound::records_within))]
 fn mark_for(book: &[u8], s: Shape, i: usize, k: usize) -> i64
     requires { (verdict_of book.now ≡ Sound s) × (k < s.positions) }
     ensures { result ≡ mark_for book.now s i k }
@@ -272,6 +275,7 @@ pub fn marked(book: &[u8], s: Shape, i: usize) -> i64
 }
 
 // The naked margin of instrument i of a sound book.
+#[tactic(auto, using(book::proofs::Sound::records_within))]
 fn naked_at(book: &[u8], s: Shape, i: usize) -> i64
     requires { (verdict_of book.now ≡ Sound s) × (i < s.instruments) }
     ensures { result ≡ naked_at book.now s i }

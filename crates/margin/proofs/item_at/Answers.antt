@@ -1,4 +1,4 @@
-use Rattle.std.proofs.Common.{◌∙◌, ap, sym}
+use Rattle.std.proofs.Common.{◌∙◌, ap}
 use Rattle.margin.specs.Items.{item_for, item_of}
 use Rattle.margin.proofs.item_at.Goals as goal
 

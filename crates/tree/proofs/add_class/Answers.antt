@@ -6,9 +6,6 @@ use Rattle.book.proofs.Sound.{sound_book}
 use Rattle.tree.proofs.Buffers.{row_within, with_none}
 use Rattle.tree.proofs.add_class.Goals as goal
 
-pub class_at-parent-requires : goal.class_at-parent-requires
-class_at-parent-requires c = let k = sound_book _ _ c.requires.0 in omega arith
-
 pub add_row-requires : goal.add_row-requires
 add_row-requires c =
     let p = (sound_book _ _ c.requires.0).points (omega arith) in

@@ -1,16 +1,9 @@
-use Rattle.std.proofs.Common.{◌≡◌, sym, arith}
+use Rattle.std.proofs.Common.{◌≡◌, sym}
 use borrow.Author.Tests.{ne_eqb}
 use lib.IntN.{+ℤ_idr}
 use Rattle.paper.specs.Answers.{walk_of}
-use Rattle.book.proofs.Sound.{sound_book}
 use Rattle.tree.proofs.Buffers.{row_within, with_none}
 use Rattle.tree.proofs.add_item.Goals as goal
-
-pub overflow_add-s : goal.overflow_add-s
-overflow_add-s c = let k = sound_book _ _ c.requires.0 in omega arith
-
-pub instrument_at-home-requires : goal.instrument_at-home-requires
-instrument_at-home-requires c = let k = sound_book _ _ c.requires.0 in omega arith
 
 pub returns-else-home-k : goal.returns-else-home-k
 returns-else-home-k c =

@@ -3,9 +3,6 @@ use Rattle.book.proofs.Sound.{sound_book}
 use Rattle.tree.proofs.Buffers.{row_within}
 use Rattle.tree.proofs.with_class.Goals as goal
 
-pub class_at-parent-requires : goal.class_at-parent-requires
-class_at-parent-requires c = let k = sound_book _ _ c.requires.0 in omega arith
-
 pub lowest_in-low-requires : goal.lowest_in-low-requires
 lowest_in-low-requires c =
     let p = (sound_book _ _ c.requires.0).points (omega arith) in

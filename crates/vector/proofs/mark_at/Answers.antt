@@ -2,15 +2,6 @@ use Rattle.std.proofs.Common.{arith}
 use Rattle.vector.proofs.Book.{book, position_fits_lem}
 use Rattle.vector.proofs.mark_at.Goals as goal
 
-pub overflow_add-s : goal.overflow_add-s
-overflow_add-s c = let k = book _ _ c.requires.0 in omega arith
-
-pub overflow_add-s-2 : goal.overflow_add-s-2
-overflow_add-s-2 c = let k = book _ _ c.requires.0 in omega arith
-
-pub position_at-p-requires : goal.position_at-p-requires
-position_at-p-requires c = let k = book _ _ c.requires.0 in omega arith
-
 -- the instrument that the position names stands in the book
 pub overflow_add-s-3 : goal.overflow_add-s-3
 overflow_add-s-3 c =

@@ -2,12 +2,6 @@ use Rattle.std.proofs.Common.{arith}
 use Rattle.vector.proofs.Book.{book, points_of, net_part}
 use Rattle.vector.proofs.naked_at.Goals as goal
 
-pub overflow_add-s : goal.overflow_add-s
-overflow_add-s c = let k = book _ _ c.requires.0 in omega arith
-
-pub instrument_at-x-requires : goal.instrument_at-x-requires
-instrument_at-x-requires c = let k = book _ _ c.requires.0 in omega arith
-
 pub naked-requires : goal.naked-requires
 naked-requires c =
     let s = c.args in

@@ -1,30 +1,33 @@
-use Rattle.std.proofs.Common.{◌≡◌, ap, length, arith, rules}
+use Rattle.std.proofs.Common.{◌≡◌, List, ℕ, ℤ, ap, refl, length, arith}
+use Rattle.paper.specs.declared.Shape.{Shape}
+use Rattle.paper.specs.declared.Totals.{Totals}
 use Rattle.paper.specs.declared.Verdict.TheVariants.{Sound}
-use Rattle.paper.specs.Refusals.{verdict_on}
+use Rattle.paper.specs.Refusals.{verdict_of}
 use Rattle.paper.specs.Listing.{listing_for}
 use Rattle.book.proofs.Sound.{sound_book}
+use Rattle.margin.specs.Run.{Ran}
 use Rattle.listing.specs.Page.{figure_lines}
 use Rattle.listing.proofs.Sounds.{enough, listing_is}
 use Rattle.listing.proofs.Lengths.{sound_short}
 use Rattle.listing.proofs.page.put_sound.Goals as goal
 
--- the lines of what was run are the listing's
+-- the lines of what was run in buffers that are long enough are the listing's
+lines_are :
+    (b : List ℕ) (s : Shape) (rows rows' : List ℤ) (choice choice' : List ℕ) (code place : ℕ) (totals : Totals) →
+    verdict_of b ≡ Sound s → length rows ≡ 4824 → length choice ≡ 88 → Ran b rows choice code place totals rows' choice' →
+    figure_lines b s totals choice' ≡ listing_for b (Sound s)
+lines_are b s rows rows' choice choice' code place totals sound r c ran =
+    listing_is b s rows choice code place totals rows' choice' sound
+    (enough b s (length rows) (length choice) sound (omega arith) (omega arith))
+    ran
+
 pub put_figures-requires : goal.put_figures-requires
 put_figures-requires c =
     let b = c.args.book.now in
     let s = c.args.s in
     let ok = sound_book b s c.requires.0 in
-    let e : verdict_on b 4824 88 ≡ Sound s = enough b s 4824 88 c.requires.0 (omega arith) (omega arith) in
-    let f : figure_lines b s c.totals.result c.run-answer.new.choice ≡ listing_for b (Sound s) =
-    rw c.totals.ensures (listing_is b s _ _ _ _ _ _ _ c.requires.0 e c.run-answer.ensures) in
-    (omega (arith, sound_short b s c.requires.0, c.requires.1, ap length f), omega (arith, ok.classes, ok.instruments))
+    let e = lines_are b s _ _ _ _ _ _ _ c.requires.0 refl refl c.run-answer.ensures in
+    rw c.totals.ensures (omega (arith, sound_short b s c.requires.0, c.requires.1, ap length e), omega (arith, ok.classes, ok.instruments))
 
 pub returns : goal.returns
-returns c =
-    let b = c.args.book.now in
-    let s = c.args.s in
-    let ok = sound_book b s c.requires.0 in
-    let e : verdict_on b 4824 88 ≡ Sound s = enough b s 4824 88 c.requires.0 (omega arith) (omega arith) in
-    let f : figure_lines b s c.totals.result c.run-answer.new.choice ≡ listing_for b (Sound s) =
-    rw c.totals.ensures (listing_is b s _ _ _ _ _ _ _ c.requires.0 e c.run-answer.ensures) in
-    rw f at c.put_figures.ensures
+returns c = rw (c.totals.ensures, lines_are c.args.book.now c.args.s _ _ _ _ _ _ _ c.requires.0 refl refl c.run-answer.ensures) at c.put_figures.ensures

@@ -5,9 +5,6 @@ use Rattle.tree.proofs.Book.{valid}
 use Rattle.tree.proofs.Buffers.{row_within}
 use Rattle.tree.proofs.choice.class_point.Goals as goal
 
-pub class_at-parent-requires : goal.class_at-parent-requires
-class_at-parent-requires c = let k = sound_book _ _ c.requires.0 in omega arith
-
 pub overflow_sub-points : goal.overflow_sub-points
 overflow_sub-points c = let p = (sound_book _ _ c.requires.0).points (omega arith) in omega arith
 

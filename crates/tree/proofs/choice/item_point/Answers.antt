@@ -4,19 +4,12 @@ use Rattle.paper.specs.Windows.{chosen_near}
 use Rattle.paper.specs.Answers.{class_point, walk_of}
 use Rattle.window.specs.Slides.{entry_of}
 use Rattle.amount.proofs.Lists.{listed_length, listed_at}
-use Rattle.book.proofs.Sound.{sound_book}
 use Rattle.window.proofs.Near.{chosen_is}
 use Rattle.vector.proofs.Book.{points_of}
 use Rattle.tree.proofs.Book.{valid}
 use Rattle.tree.proofs.Buffers.{first_listed}
 use Rattle.tree.proofs.Read.{chosen_cong}
 use Rattle.tree.proofs.choice.item_point.Goals as goal
-
-pub overflow_add-s : goal.overflow_add-s
-overflow_add-s c = let k = sound_book _ _ c.requires.0 in omega arith
-
-pub instrument_at-home-requires : goal.instrument_at-home-requires
-instrument_at-home-requires c = let k = sound_book _ _ c.requires.0 in omega arith
 
 pub reach_of-reach-requires : goal.reach_of-reach-requires
 reach_of-reach-requires c =

@@ -3,12 +3,6 @@ use Rattle.book.proofs.Sound.{sound_book}
 use Rattle.vector.proofs.Book.{points_of, net_part}
 use Rattle.tree.proofs.terms.fill_vector.Goals as goal
 
-pub overflow_add-s : goal.overflow_add-s
-overflow_add-s c = let k = sound_book _ _ c.requires.0 in omega arith
-
-pub instrument_at-x-requires : goal.instrument_at-x-requires
-instrument_at-x-requires c = let k = sound_book _ _ c.requires.0 in omega arith
-
 pub fill-requires : goal.fill-requires
 fill-requires c =
     let b = c.args.book.now in

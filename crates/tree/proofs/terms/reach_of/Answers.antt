@@ -1,9 +1,6 @@
-use Rattle.std.proofs.Common.{◌∙◌, arith}
+use Rattle.std.proofs.Common.{◌∙◌}
 use Rattle.book.proofs.Sound.{sound_book}
 use Rattle.tree.proofs.terms.reach_of.Goals as goal
-
-pub class_at-class-requires : goal.class_at-class-requires
-class_at-class-requires c = let k = sound_book _ _ c.requires.0 in omega arith
 
 pub returns : goal.returns
 returns c = c.reach.ensures ∙ rw (c.class_at-class.ensures, ((sound_book _ _ c.requires.0).class c.args.k c.requires.1).points)
