@@ -1,9 +1,9 @@
 -- Each public function's contract, of this crate and of the vocabulary below it, allows one result. Assumes nothing.
 use Rattle.amount.proofs.Outcomes.{OneResult, coincide}
 use Rattle.paper.proofs.Fault.code.Reads as fault-code-reads
-use Rattle.paper.proofs.Answer.code.Reads as answer-code-reads
-use Rattle.paper.proofs.Answer.place.Reads as answer-place-reads
-use Rattle.paper.proofs.Answer.totals.Reads as answer-totals-reads
+use Rattle.paper.proofs.ResultTotalsRefusalNumbers.code.Reads as answer-code-reads
+use Rattle.paper.proofs.ResultTotalsRefusalNumbers.place.Reads as answer-place-reads
+use Rattle.paper.proofs.ResultTotalsRefusalNumbers.totals.Reads as answer-totals-reads
 use Rattle.paper.proofs.Totals.none.Reads as none_reads
 use Rattle.paper.proofs.Totals.with_mark.Reads as with-mark-reads
 use Rattle.paper.proofs.Totals.with_naked.Reads as with-naked-reads
@@ -12,6 +12,7 @@ use Rattle.amount.proofs.plus.Reads as plus-reads
 use Rattle.amount.proofs.less.Reads as less-reads
 use Rattle.amount.proofs.times.Reads as times-reads
 use Rattle.amount.proofs.worse.Reads as worse-reads
+use Rattle.amount.proofs.lowest.Reads as lowest-reads
 use Rattle.amount.proofs.size.Reads as size-reads
 use Rattle.amount.proofs.nearest.Reads as nearest-reads
 
@@ -53,6 +54,9 @@ worse κs a x y e f = coincide
 
 size : OneResult size-reads.Post
 size κs a x y e f = coincide
+
+lowest : OneResult lowest-reads.Post
+lowest κs a x y e f = coincide
 
 nearest : OneResult nearest-reads.Post
 nearest κs a x y e f = coincide

@@ -1,7 +1,7 @@
 -- The laws that every crate cites.
 pub mod Ints
 pub mod Sums
-pub mod Lowest
+pub mod Worst
 pub mod Lists
 pub mod Outcomes
 pub mod Determined

@@ -7,13 +7,13 @@ use native.Mathlib.Decide.{ℕ_discrete, dec_lt}
 use lib.IntN.{ℤ, pos, negsuc, neg_ℤ, nat_abs, ◌-ℤ◌, ◌*ℤ◌, neg_ℤ-neg_ℤ, +ℤ_idl}
 use lib.Signed.{◌≤ℤ◌, ◌<ℤ◌}
 use Rattle.paper.specs.Rounding.{nearest_size, nearest, distance, Nearest}
-use Rattle.amount.proofs.Ints.{ints, plus, neg, sign, abs}
+use Rattle.amount.proofs.Ints.{ints}
 
 far : (n m : ℕ) → nat_abs (pos n -ℤ pos m) ≡ (n - m) + (m - n)
-far n m = omega (ints, plus (pos n) (neg_ℤ (pos m)), neg (pos m), sign (pos n -ℤ pos m), abs (pos n -ℤ pos m))
+far n m = omega ints
 
 across : (n m : ℕ) → nat_abs (pos n -ℤ neg_ℤ (pos m)) ≡ n + m
-across n m = omega (ints, plus (pos n) (neg_ℤ (neg_ℤ (pos m))), neg (pos m), neg (neg_ℤ (pos m)), sign (pos n -ℤ neg_ℤ (pos m)), abs (pos n -ℤ neg_ℤ (pos m)))
+across n m = omega ints
 
 -- n / d is off by at most half a unit, and by less where it is rounded down
 module _ (n d : ℕ) (h : 0 < d) where
@@ -72,24 +72,10 @@ minus_times (pos (suc n)) d = refl
 minus_times (negsuc n) d = sym (neg_ℤ-neg_ℤ (pos (suc n * d)))
 
 size_minus : (z : ℤ) → nat_abs (neg_ℤ z) ≡ nat_abs z
-size_minus z = omega (arith, abs z, abs (neg_ℤ z), neg z)
+size_minus z = omega ints
 
 mirror : (z s : ℤ) (d : ℕ) → distance (neg_ℤ z) d s ≡ distance z d (neg_ℤ s)
-mirror z s d =
-    let w : ℤ = s *ℤ pos d in
-    rw (minus_times s d)
-    (omega (
-      ints,
-      abs (neg_ℤ z -ℤ w),
-      abs (z -ℤ neg_ℤ w),
-      plus (neg_ℤ z) (neg_ℤ w),
-      plus z (neg_ℤ (neg_ℤ w)),
-      neg z,
-      neg w,
-      neg (neg_ℤ w),
-      sign (neg_ℤ z -ℤ w),
-      sign (z -ℤ neg_ℤ w),
-    ))
+mirror z s d = rw (minus_times s d) (omega ints)
 
 flip : {z r : ℤ} {d : ℕ} → Nearest z d r → Nearest (neg_ℤ z) d (neg_ℤ r)
 flip {z} {r} {d} N = record {

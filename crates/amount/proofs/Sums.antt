@@ -9,7 +9,7 @@ use borrow.Author.Tests.{eq-eqb, ne_eqb}
 use lib.IntN.{ℤ, pos, ◌+ℤ◌, +ℤ_idl, +ℤ_idr}
 use lib.Signed.{◌≤ℤ◌, ≤ℤ_refl}
 use Rattle.paper.specs.Sums.{sum, only, rounds}
-use Rattle.amount.proofs.Ints.{ints, plus}
+use Rattle.amount.proofs.Ints.{ints}
 
 pub sum_cong : (n : ℕ) {f g : ℕ → ℤ} → ((k : ℕ) → k < n → f k ≡ g k) → sum n f ≡ sum n g
 unfolding sum
@@ -19,12 +19,12 @@ sum_cong (suc n) e = ap₂ ◌+ℤ◌ (sum_cong n (λ k h. e k (omega arith))) (
 pub sum_mono : (n : ℕ) {f g : ℕ → ℤ} → ((k : ℕ) → k < n → f k ≤ℤ g k) → sum n f ≤ℤ sum n g
 unfolding sum
 sum_mono zero e = ≤ℤ_refl (pos 0)
-sum_mono (suc n) {f} {g} e = omega (ints, sum_mono n {f = f} {g = g} (λ k h. e k (omega arith)), e n (omega arith), plus (sum n f) (f n), plus (sum n g) (g n))
+sum_mono (suc n) {f} {g} e = omega (ints, sum_mono n {f = f} {g = g} (λ k h. e k (omega arith)), e n (omega arith))
 
 pub sum_add : (n : ℕ) (f g : ℕ → ℤ) → sum n (λ k. f k +ℤ g k) ≡ sum n f +ℤ sum n g
 unfolding sum
 sum_add zero f g = refl
-sum_add (suc n) f g = rw (sum_add n f g) (omega (ints, plus (sum n f +ℤ sum n g) (f n +ℤ g n), plus (sum n f) (sum n g), plus (f n) (g n), plus (sum n f +ℤ f n) (sum n g +ℤ g n), plus (sum n f) (f n), plus (sum n g) (g n)))
+sum_add (suc n) f g = rw (sum_add n f g) (omega ints)
 
 pub sum_zero : (n : ℕ) → sum n (λ k. pos 0) ≡ pos 0
 unfolding sum

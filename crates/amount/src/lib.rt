@@ -1,10 +1,10 @@
 // Whole øre, signed: the arithmetic that every figure goes through.
 #![tactic(auto)]
 
-ghost use Rattle.std.specs.Prelude.{◌≡◌, ℕ, ◌<◌, ◌≤◌, ◌^◌, ℤ, pos, nat_abs, neg_ℤ, ◌+ℤ◌, ◌-ℤ◌, ◌*ℤ◌};
+ghost use Rattle.std.specs.Prelude.{◌≡◌, ℕ, ◌-◌, ◌<◌, ◌≤◌, ◌^◌, ℤ, pos, nat_abs, neg_ℤ, ◌+ℤ◌, ◌-ℤ◌, ◌*ℤ◌, length, get_or};
 ghost use Rattle.std.specs.Int.{w64};
 ghost use Rattle.std.proofs.Common.{SFits};
-ghost use Rattle.paper.specs.Sums.{worse as worse_of};
+ghost use Rattle.paper.specs.Sums.{worse as worse_of, lowest as lowest_of};
 ghost use Rattle.paper.specs.Rounding.{nearest as nearest_of, nearest_size as nearest_size_of};
 
 pub fn plus(a: i64, b: i64) -> i64
@@ -32,18 +32,22 @@ pub fn times(a: i64, b: i64) -> i64
 pub fn worse(a: i64, b: i64) -> i64
     ensures { result ≡ worse_of a b }
 {
-    if b < a { b } else { a }
+    a.min(b)
+}
+
+// The lowest of the amounts.
+pub fn lowest(v: &[i64]) -> i64
+    requires { 0 < length v.now }
+    ensures { result ≡ lowest_of (λ y. get_or v.now y (pos 0)) 0 (length v.now - 1) }
+{
+    v.iter().copied().fold(v[0], worse)
 }
 
 // The size of an amount, of the lowest too, whose negative no i64 holds.
 pub fn size(a: i64) -> u64
     ensures { result ≡ nat_abs a }
 {
-    if a < 0 {
-        less(-1, a) as u64 + 1
-    } else {
-        a as u64
-    }
+    a.unsigned_abs()
 }
 
 // A size, rounded to nearest over a divisor: half a unit is added, and the rest is dropped.
@@ -60,5 +64,5 @@ pub fn nearest(z: i64, d: u64) -> i64
     ensures { result ≡ nearest_of z d }
 {
     let near = nearest_size(size(z), d) as i64;
-    if z < 0 { less(0, near) } else { near }
+    if z < 0 { -near } else { near }
 }

@@ -1,5 +1,7 @@
 -- The verdict on a long book is that on its first records: what the tests of a record read stands before it or in it.
 -- Assumes nothing.
+use Rattle.std.specs.Prelude.{Ok, Err}
+use Rattle.paper.specs.Refusals.{Finding, Verdict, refused}
 use mathlib.Core.Path.{◌≡◌, refl, ◌∙◌, ap, sym}
 use mathlib.Core.Bool.{Bool, true, false, cond}
 use mathlib.Core.List.{List}
@@ -12,10 +14,6 @@ use lib.Seq.{length-take-le, get_or-take}
 use Rattle.paper.specs.declared.Shape.{Shape}
 use Rattle.paper.specs.declared.Fault.{Fault}
 use Rattle.paper.specs.declared.Fault.TheVariants.{Length, Letter, Order, Limit, Reserved, Reference}
-use Rattle.paper.specs.declared.Finding.{Finding}
-use Rattle.paper.specs.declared.Finding.TheVariants.{Faulty}
-use Rattle.paper.specs.declared.Verdict.{Verdict}
-use Rattle.paper.specs.declared.Verdict.TheVariants.{Sound, Refused}
 use Rattle.paper.specs.Records.{record_bytes, whole_records, byte, le16, le32, kind_at, class_at, instrument_at, position_at, count, shape_of}
 use Rattle.paper.specs.Refusals.{length_fault, letter_fault, order_fault, limit_fault, reserved_fault, kind_before, zeros, reserved_zero, reference_fault, range_fault, points_fault, tests, first_given, finding_at, verdict_of}
 use Rattle.paper.specs.Listing.{kept_records}
@@ -119,10 +117,10 @@ module _ (b c : List ℕ) (m : ℕ) (same : (r o : ℕ) → r < m → o < 32 →
       let s = shape_of c r in
       rw (shape_same r h, kind_same r h, before_same r h, reserved_same r h, reference_same r s h, points_same r s h)
       (ap
-      (λ (later : Finding). cond (letter_fault c r) (Faulty Letter) (cond (order_fault c r) (Faulty Order) (cond (limit_fault c r s) (Faulty Limit) (cond (reserved_fault c r) (Faulty Reserved) later))))
+      (λ (later : Finding). cond (letter_fault c r) (Err Letter) (cond (order_fault c r) (Err Order) (cond (limit_fault c r s) (Err Limit) (cond (reserved_fault c r) (Err Reserved) later))))
       (past (reference_fault c r s) (λ t. rw (range_same r s h (omega (arith, shape_le c r)) t))))
     where
-      past : (given : Bool) {x y : Finding} → (given ≡ false → x ≡ y) → cond given (Faulty Reference) x ≡ cond given (Faulty Reference) y
+      past : (given : Bool) {x y : Finding} → (given ≡ false → x ≡ y) → cond given (Err Reference) x ≡ cond given (Err Reference) y
       past true f = refl
       past false f = f refl
 
@@ -149,7 +147,7 @@ kept b whole long = by (verdict_of (front b)) refl
     found : (r : ℕ) → r < kept_records → finding_at b r ≡ finding_at (front b) r
     found = finding_same b (front b) kept_records (front_same b)
 
-    first : (g : Fault) (r : ℕ) → FirstFault (front b) g r → verdict_of b ≡ Refused g r
+    first : (g : Fault) (r : ℕ) → FirstFault (front b) g r → verdict_of b ≡ refused g r
     first g r h =
         let w : r < kept_records = omega (arith, f_records, h.within) in
         refused_in b g r (record {
@@ -160,8 +158,8 @@ kept b whole long = by (verdict_of (front b)) refl
         })
 
     by : (v : Verdict) → verdict_of (front b) ≡ v → verdict_of b ≡ verdict_of (front b)
-    by (Sound s) e = absurd (never_longer (front b) s (omega (arith, f_records)) e)
-    by (Refused g r) e = first g r (refused_out (front b) g r (λ k. absurd (not_length (e ∙ ap (λ (x : Fault). Refused x r) k))) e) ∙ sym e
+    by (Ok s) e = absurd (never_longer (front b) s (omega (arith, f_records)) e)
+    by (Err q) e = first q.fault q.place (refused_out (front b) q.fault q.place (λ k. absurd (not_length (e ∙ ap (λ (x : Fault). refused x q.place) k))) e) ∙ sym e
       where
-        not_length : verdict_of (front b) ≡ Refused Length r → ⊥
-        not_length h = let t = (length_out (front b) r h).0 in let z : ◌≡◌ {A = Bool} true false = sym t ∙ f_whole in let y : ◌≡◌ {A = ℕ} 0 1 = cc in omega arith
+        not_length : verdict_of (front b) ≡ refused Length q.place → ⊥
+        not_length h = let t = (length_out (front b) q.place h).0 in let z : ◌≡◌ {A = Bool} true false = sym t ∙ f_whole in let y : ◌≡◌ {A = ℕ} 0 1 = cc in omega arith

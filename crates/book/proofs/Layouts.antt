@@ -1,5 +1,6 @@
 -- Where the records of each kind stand in a book whose records are clean: classes first, then instruments, then
 -- positions. Assumes nothing.
+use Rattle.std.specs.Prelude.{Ok}
 use mathlib.Core.Path.{◌≡◌, refl, ◌∙◌, sym}
 use mathlib.Core.List.{List}
 use Prim.Native.Nat.{ℕ, zero, suc, ◌+◌, ◌-◌, ◌≤◌, ◌<◌}
@@ -8,7 +9,6 @@ use native.Mathlib.Nat.{add-zero}
 use native.Mathlib.Numerals.{add-one}
 use native.Mathlib.Omega.{arith}
 use borrow.Author.Tests.{eq-eqb, ne_eqb, eqb-false, ltb-false}
-use Rattle.paper.specs.declared.Finding.TheVariants.{Clean}
 use Rattle.paper.specs.Records.{kind_of, kind_at, count}
 use Rattle.paper.specs.Refusals.{kind_before, finding_at}
 use Rattle.book.proofs.Counts.{count_more}
@@ -34,7 +34,7 @@ pub record Ranked (b : List ℕ) (r : ℕ) : Type 0 where
   pub most : kind_at b r ≤ 3
   pub order : kind_before b r ≤ kind_at b r
 
-pub ranked : (b : List ℕ) (r : ℕ) → finding_at b r ≡ Clean → Ranked b r
+pub ranked : (b : List ℕ) (r : ℕ) → finding_at b r ≡ (Ok tt) → Ranked b r
 ranked b r h =
     let p = passed b r h in
     let z : kind_at b r ≡ 0 → ⊥ = eqb-false _ _ p.letter in

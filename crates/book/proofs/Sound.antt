@@ -1,4 +1,5 @@
 -- What a book that the scan finds sound is: later crates use these laws, and not the scan's text. Assumes nothing.
+use Rattle.std.specs.Prelude.{Ok}
 use mathlib.Core.Path.{◌≡◌, refl, ◌∙◌}
 use mathlib.Core.Logic.{◌⊎◌, inl, inr, ⊎_elim}
 use mathlib.Core.Bool.{true}
@@ -9,7 +10,6 @@ use native.Mathlib.Omega.{arith}
 use borrow.Author.Tests.{leb-true, leb-false, ltb-true, eqb-true, not-false}
 use lib.ListN.{length}
 use Rattle.paper.specs.declared.Shape.{Shape}
-use Rattle.paper.specs.declared.Verdict.TheVariants.{Sound}
 use Rattle.paper.specs.Records.{whole_records, kind_at, class_at, instrument_at, position_at, root, count, shape_of, class_of, instrument_of, position_of}
 use Rattle.paper.specs.Refusals.{points_fit, share_fits, class_fits, instrument_fits, position_fits, reference_fault, range_fault, points_fault, verdict_of}
 use Rattle.paper.specs.Listing.{most_records}
@@ -214,7 +214,7 @@ module _ (b : List ℕ) (n : ℕ) (clean : AllClean b 0 n) where
         ],
       )
 
-pub sound_book : (b : List ℕ) (s : Shape) → verdict_of b ≡ Sound s → SoundBook b s
+pub sound_book : (b : List ℕ) (s : Shape) → verdict_of b ≡ Ok s → SoundBook b s
 sound_book b s h =
     let a = all_sound b s h in
     let n = whole_records b in
@@ -234,11 +234,11 @@ sound_book b s h =
     })
 
 -- its records lie within it
-pub records_within : (b : List ℕ) (s : Shape) → verdict_of b ≡ Sound s → 32 * (s.classes + s.instruments + s.positions) ≤ length b
+pub records_within : (b : List ℕ) (s : Shape) → verdict_of b ≡ Ok s → 32 * (s.classes + s.instruments + s.positions) ≤ length b
 records_within b s h = let k = sound_book b s h in omega arith
 
 -- "a book longer than 344 is always refused"
-pub never_longer : (b : List ℕ) (s : Shape) → most_records < whole_records b → verdict_of b ≡ Sound s → ⊥
+pub never_longer : (b : List ℕ) (s : Shape) → most_records < whole_records b → verdict_of b ≡ Ok s → ⊥
 never_longer b s long h =
     let k = sound_book b s h in
     omega (arith, k.records, k.classes, k.instruments, k.positions)

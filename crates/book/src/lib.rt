@@ -1,64 +1,103 @@
-// Whether a book is sound: records of 32 bytes, classes, then instruments, then positions.
+// Whether a book is sound: records of 32 bytes, classes, then instruments, then positions. What a sound book is read by.
 #![tactic(auto)]
 
-ghost use Rattle.std.specs.Prelude.{◌≡◌, ◌+◌, ◌*◌, ◌%◌, ◌≤◌, length};
-ghost use Rattle.paper.specs.Records.{class_at, shape_of};
+ghost use Rattle.std.specs.Prelude.{◌≡◌, ◌%◌, ◌<◌, Ok, length};
+ghost use Rattle.paper.specs.Records.{class_at, class_of, instrument_of, position_of};
 ghost use Rattle.paper.specs.Refusals.{verdict_of};
 
-use paper::{Fault, Finding, Shape, Verdict};
+use crate::tests::Next;
+use paper::{Class, Fault, Instrument, Position, Refusal, Shape};
+use record::Record;
 
 mod tests; // tests.rt: the questions that each record is asked, in the table's order
+
+// A sound book: its bytes, and its shape.
+#[derive(Clone, Copy)]
+pub struct SoundBook<'a> {
+    pub bytes: &'a [u8],
+    pub shape: Shape,
+    ghost sound: { verdict_of bytes.now ≡ Ok shape },
+}
+
+impl SoundBook<'_> {
+    // Class number k.
+    #[tactic(auto, using(crate::proofs::Sound::records_within))]
+    pub fn class(&self, k: usize) -> Class
+        requires { k < self.now.shape.classes }
+        ensures { result ≡ class_of self.now.bytes.now k }
+    {
+        let record = Record {
+            book: self.bytes,
+            number: k,
+        };
+        record.class()
+    }
+
+    // Instrument number i: these stand after the classes.
+    #[tactic(auto, using(crate::proofs::Sound::records_within))]
+    pub fn instrument(&self, i: usize) -> Instrument
+        requires { i < self.now.shape.instruments }
+        ensures { result ≡ instrument_of self.now.bytes.now self.now.shape i }
+    {
+        let record = Record {
+            book: self.bytes,
+            number: self.shape.classes + i,
+        };
+        record.instrument()
+    }
+
+    // Position number k: these stand last.
+    #[tactic(auto, using(crate::proofs::Sound::records_within))]
+    pub fn position(&self, k: usize) -> Position
+        requires { k < self.now.shape.positions }
+        ensures { result ≡ position_of self.now.bytes.now self.now.shape k }
+    {
+        let record = Record {
+            book: self.bytes,
+            number: self.shape.classes + self.shape.instruments + k,
+        };
+        record.position()
+    }
+}
 
 // Every class is held to the points of class 0; a book without records has none.
 fn first_points(book: &[u8]) -> usize
     requires { length book.now % 32 ≡ 0 }
     ensures { result ≡ (class_at book.now 0).points }
 {
-    if book.len() == 0 {
+    if book.is_empty() {
         return 0;
     }
-    record::class_at(book, 0).points as usize
-}
-
-// The records before r, and record r with them.
-fn counted(book: &[u8], r: usize, s: Shape) -> Shape
-    requires { (32 * r + 32 ≤ length book.now) × (s ≡ shape_of book.now r) }
-    ensures { result ≡ shape_of book.now (r + 1) }
-{
-    let kind = record::kind_at(book, r);
-    let mut next = s;
-    match kind {
-        1 => next.classes = s.classes + 1,
-        2 => next.instruments = s.instruments + 1,
-        3 => next.positions = s.positions + 1,
-        _ => {}
-    }
-    next
+    let first = Record { book, number: 0 };
+    first.class().points as usize
 }
 
 // The verdict on a book: sound, with its shape, or the first fault and its place.
-pub fn scan(book: &[u8]) -> Verdict
+pub fn scan(book: &[u8]) -> Result<Shape, Refusal>
     ensures { result ≡ verdict_of book.now }
 {
     let n = book.len() / 32;
     if book.len() % 32 != 0 {
-        return Verdict::Refused(Fault::Length, n);
+        return Err(Refusal {
+            fault: Fault::Length,
+            place: n,
+        });
     }
-    let mut s = Shape {
+    let mut before = Shape {
         classes: 0,
         instruments: 0,
         positions: 0,
         points: first_points(book),
     };
-    let mut r = 0;
-    while r < n {
-        let found = tests::finding(book, r, s);
-        match found {
-            Finding::Clean => {}
-            Finding::Faulty(f) => return Verdict::Refused(f, r),
+    for r in 0..n {
+        let next = Next {
+            this: Record { book, number: r },
+            before,
+        };
+        if let Err(fault) = next.finding() {
+            return Err(Refusal { fault, place: r });
         }
-        s = counted(book, r, s);
-        r += 1;
+        before = next.counted();
     }
-    Verdict::Sound(s)
+    Ok(before)
 }

@@ -4,6 +4,8 @@
 ghost use Rattle.margin.specs.Run.{Ran};
 ghost use Rattle.desk.specs.Call.{totals as totals_of};
 
+use paper::Numbers;
+
 // The run of a book. Nothing is to be checked first: a buffer that is too short is refused like a faulty book.
 #[unsafe(no_mangle)]
 pub extern "C" fn desk_run(
@@ -22,10 +24,7 @@ pub extern "C" fn desk_run(
     *code = answer.code();
     *place = answer.place() as u64;
     let totals = answer.totals();
-    let marked = totals.mark;
-    *mark = marked;
-    let bare = totals.naked;
-    *naked = bare;
-    let crossed = totals.cross;
-    *cross = crossed;
+    *mark = totals.mark;
+    *naked = totals.naked;
+    *cross = totals.cross;
 }

@@ -2,17 +2,9 @@
 // two books: 1000 bought of CFRAU9 and 700 sold of CFRAH9, and 100 of MBFH9 bought today at 101.8.
 #![tactic(auto)]
 
-use margin::Item;
-use paper::Answer;
+use paper::Numbers;
 use std::io::Read;
 use text::Text;
-
-// The bytes of a text.
-fn show_from(out: &impl Print, bytes: &[u8], from: usize) {
-    if from <= bytes.len() {
-        let _ = out.write_all(&bytes[from..]);
-    }
-}
 
 // A name, a number and an amount.
 fn show(out: &impl Print, name: &[u8], k: usize, t: Text) {
@@ -23,28 +15,22 @@ fn show(out: &impl Print, name: &[u8], k: usize, t: Text) {
 }
 
 fn show_amount(out: &impl Print, t: Text) {
-    let bytes = t.bytes;
-    show_from(out, &bytes, t.from);
+    let _ = out.write_all(t.as_bytes());
     let _ = out.write_all(b"\n");
 }
 
 // An instrument's amounts at all points.
 fn show_vector(out: &impl Print, name: &[u8], book: &[u8], i: usize) {
-    let mut point = 0;
-    while point < 31 {
-        match margin::item_at(book, i, point) {
-            Item::Amount(z) => show(out, name, point, kroner::write(z)),
-            Item::Nothing => {}
+    for point in 0..31 {
+        if let Some(z) = margin::item_at(book, i, point) {
+            show(out, name, point, kroner::write(z));
         }
-        point += 1;
     }
 }
 
 fn show_row(out: &impl Print, name: &[u8], row: &[i64]) {
-    let mut point = 0;
-    while point < row.len() {
-        show(out, name, point, kroner::write(row[point]));
-        point += 1;
+    for (point, z) in row.iter().enumerate() {
+        show(out, name, point, kroner::write(*z));
     }
 }
 
@@ -52,9 +38,8 @@ fn show_row(out: &impl Print, name: &[u8], row: &[i64]) {
 fn show_result(out: &impl Print, book: &[u8]) {
     let mut rows = [0i64; 31];
     let mut choice = [0u16; 3];
-    match margin::run(book, &mut rows, &mut choice) {
-        Answer::Accepted(_) => show_row(out, b"RESULT ", &rows),
-        Answer::Refused(_, _) => {}
+    if margin::run(book, &mut rows, &mut choice).is_ok() {
+        show_row(out, b"RESULT ", &rows);
     }
 }
 
@@ -71,9 +56,8 @@ fn show_totals(out: &impl Print, book: &[u8]) {
 
 // An instrument's mark-to-market amount, where there is such an instrument.
 fn show_mark(out: &impl Print, book: &[u8], i: usize) {
-    match margin::item_mark(book, i) {
-        Item::Amount(z) => show(out, b"MARK ", i, kroner::write(z)),
-        Item::Nothing => {}
+    if let Some(z) = margin::item_mark(book, i) {
+        show(out, b"MARK ", i, kroner::write(z));
     }
 }
 
@@ -81,17 +65,16 @@ fn show_fra(out: &impl Print, book: &[u8]) {
     show_vector(out, b"CFRAU9 ", book, 0);
     show_vector(out, b"CFRAH9 ", book, 1);
     show_result(out, book);
-    show_mark(out, book, 0);
-    show_mark(out, book, 1);
-    show_mark(out, book, 2);
+    for i in 0..3 {
+        show_mark(out, book, i);
+    }
 }
 
 // Five records, then three.
-fn show_tables(out: &impl Print, books: &[u8]) {
-    if books.len() == 256 {
-        show_fra(out, &books[0..160]);
-        show_totals(out, &books[160..256]);
-    }
+fn show_tables(out: &impl Print, books: &[u8; 256]) {
+    let (fra, bond) = books.split_at(160);
+    show_fra(out, fra);
+    show_totals(out, bond);
 }
 
 fn main(rt: HostRuntime) {

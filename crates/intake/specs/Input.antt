@@ -1,41 +1,38 @@
 -- How far an input is read. Which bytes come, and how many, is the system's to say.
-use Rattle.std.specs.Prelude.{◌≡◌, true, false, cond, ◌||◌, ℕ, ◌+◌, ◌≤◌, min, eqb, Result, Ok, Err}
-use Rattle.intake.specs.declared.Came.{Came}
-use Rattle.intake.specs.declared.Came.TheVariants.{Bytes, End, Failed}
-use Rattle.intake.specs.declared.Input.{Input}
+use Rattle.std.specs.Prelude.{◌≡◌, ℕ, ◌+◌, ◌≤◌, ◌<◌, cond, eqb, Result, Ok, Err, List, ◌++◌, length, take, Option, None, Some}
+use Rattle.std.specs.Io.KnownBytes.{Consumes, Keeps, IsAtEnd}
+use Rattle.paper.specs.Listing.{kept_bytes}
 
--- what a read's answer means, where there was room for so many bytes: an error is a failure, and no byte is the end
-abbrev pub came_of : {E : Type 0} → Result ℕ E → ℕ → Came
-came_of (Ok n) room = let bytes = min n room in cond (eqb bytes 0) End (Bytes bytes)
-came_of (Err e) room = Failed
+-- how many bytes came after one read more, by its answer: an error stays one, and no byte is the end
+abbrev pub after : {E : Type 0} → ℕ → Result ℕ E → Result (Option ℕ) E
+after whole (Ok n) = Ok (cond (eqb n 0) None (Some (whole + n)))
+after whole (Err e) = Err e
 
--- a read brings no more than there is room for
-abbrev pub Within : ℕ → Came → Type 0
-Within room (Bytes n) = n ≤ room
-Within room End = Unit {0}
-Within room Failed = Unit {0}
+-- the bytes that came: the first of them are kept, as many as there is room for, and all are counted
+pub record Held (came bytes : List ℕ) (whole : ℕ) : Type 0 where
+  pub first : bytes ≡ take kept_bytes came
+  pub counted : whole ≡ length came
 
--- nothing is read yet
-abbrev pub nothing_read : Input
-nothing_read = record { kept = 0; whole = 0; going = true; failed = false }
+-- one read more brought these bytes, which stand behind those that were kept as far as there is room
+pub record Brought (bs before now : List ℕ) (whole more : ℕ) : Type 0 where
+  pub some : 0 < length bs
+  pub few : length bs ≤ kept_bytes
+  pub first : take more now ≡ take kept_bytes (take whole before ++ bs)
+  pub counted : more ≡ whole + length bs
 
--- after one read more: the count grows by what came, of which the first are kept; the end is no failure, and a failure stays one
-abbrev pub after : ℕ → Input → Came → Input
-after room i (Bytes n) = record { kept = min room (i.whole + n); whole = i.whole + n; going = i.going; failed = i.failed }
-after room i End = record { kept = i.kept; whole = i.whole; going = false; failed = i.failed }
-after room i Failed = record { kept = i.kept; whole = i.whole; going = false; failed = true }
+-- one read more, whatever came: what was kept before stays as it is
+abbrev pub Next : {E : Type 0} → Option (List ℕ) → Option (List ℕ) → List ℕ → List ℕ → ℕ → Result (Option ℕ) E → Type 0
+Next old new before now whole (Ok (Some more)) = (bs : List ℕ) × Consumes old new bs × Brought bs before now whole more
+Next old new before now whole (Ok None) = Keeps old new × IsAtEnd new × (take whole now ≡ take whole before)
+Next old new before now whole (Err e) = Keeps old new × (take whole now ≡ take whole before)
 
--- one read more, whatever came
-pub record Next (room : ℕ) (i r : Input) : Type 0 where
-  pub came : Came
-  pub within : Within room came
-  pub is : r ≡ after room i came
+-- an input was read to its end: some bytes came, and none is left
+pub record ReadTo (old new : Option (List ℕ)) (bytes : List ℕ) (whole : ℕ) : Type 0 where
+  pub came : List ℕ
+  pub consumed : Consumes old new came
+  pub at_end : IsAtEnd new
+  pub held : Held came bytes whole
 
--- an input that is still going when the reading stops is one that can't be read
-abbrev pub closed : Input → Input
-closed i = record { kept = i.kept; whole = i.whole; going = false; failed = i.failed || i.going }
-
--- the reading is over, and of all that came as many bytes are kept as there is room for
-pub record ReadTo (room : ℕ) (r : Input) : Type 0 where
-  pub kept_is : r.kept ≡ min room r.whole
-  pub over : r.going ≡ false
+-- an input was not read to its end: some bytes may have come all the same
+abbrev pub ReadSome : Option (List ℕ) → Option (List ℕ) → Type 0
+ReadSome old new = (came : List ℕ) × Consumes old new came

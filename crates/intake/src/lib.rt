@@ -1,152 +1,75 @@
 // An input, to its end: the first bytes are kept, the others are counted.
 #![tactic(auto)]
 
-ghost use Rattle.std.specs.Prelude.{◌≡◌, ℕ, ◌+◌, ◌*◌, ◌≤◌, ◌<◌, min, length, take};
+ghost use Rattle.std.specs.Prelude.{◌≡◌, ◌+◌, ◌≤◌, min, length, take, IfOk, OnErr};
 ghost use Rattle.paper.specs.Listing.{kept_bytes};
-ghost use Rattle.intake.specs.declared.Came.TheVariants.{Bytes};
-ghost use Rattle.intake.specs.Input.{came_of, Within, nothing_read, after as after_of, Next, closed as closed_of, ReadTo};
+ghost use Rattle.intake.specs.Input.{after as after_of, Next, ReadTo, ReadSome};
 
 use std::io;
 use std::io::Read;
 
-// What one read brought.
+// What an input is: its first bytes, as many as are kept of any, and how many it has.
 #[derive(Clone, Copy)]
-pub enum Came {
-    Bytes(usize),
-    End,
-    Failed,
-}
-
-// How far the input is read: how many bytes are kept, how many came in all, and whether more may come.
-#[derive(Clone, Copy)]
-pub struct Input {
-    pub kept: usize,
+pub struct Kept<'a> {
+    pub bytes: &'a [u8],
     pub whole: usize,
-    pub going: bool,
-    pub failed: bool,
+    ghost first: { length bytes.now ≡ min kept_bytes whole },
 }
 
-impl Input {
-    pub fn none() -> Input
-        ensures { result ≡ nothing_read }
+impl<'a> Kept<'a> {
+    // Of so many bytes that came the buffer holds the first.
+    fn first_of(buffer: &'a [u8], whole: usize) -> Kept<'a>
+        requires { length buffer.now ≡ kept_bytes }
+        ensures bytes { result.bytes.now ≡ take whole buffer.now }
+        ensures whole { result.whole ≡ whole }
     {
-        Input {
-            kept: 0,
-            whole: 0,
-            going: true,
-            failed: false,
-        }
-    }
-
-    // So many bytes more, where so many are kept at most.
-    fn grown(self, room: usize, n: usize) -> Input
-        requires { (self.whole ≤ 4000000000000000000) × (n ≤ 1000000) }
-        ensures { result ≡ after_of room self (Bytes n) }
-    {
-        let whole = self.whole + n;
-        Input {
-            kept: least(room, whole),
+        let kept = whole.min(buffer.len());
+        Kept {
+            bytes: &buffer[..kept],
             whole,
-            going: self.going,
-            failed: self.failed,
-        }
-    }
-
-    // One read more. What failed before stays so.
-    pub fn after(self, room: usize, came: Came) -> Input
-        requires { (self.whole ≤ 4000000000000000000) × Within 1000000 came }
-        ensures { result ≡ after_of room self came }
-    {
-        match came {
-            Came::Bytes(n) => self.grown(room, n),
-            Came::End => Input {
-                kept: self.kept,
-                whole: self.whole,
-                going: false,
-                failed: self.failed,
-            },
-            Came::Failed => Input {
-                kept: self.kept,
-                whole: self.whole,
-                going: false,
-                failed: true,
-            },
-        }
-    }
-
-    // No more is read: an input that does not end can't be read.
-    pub fn closed(self) -> Input
-        ensures { result ≡ closed_of self }
-    {
-        Input {
-            kept: self.kept,
-            whole: self.whole,
-            going: false,
-            failed: self.failed | self.going,
         }
     }
 }
 
-fn least(a: usize, b: usize) -> usize
-    ensures { result ≡ min a b }
+// How many bytes came in all after one read more, by its answer; none more at the end, where a read brings no byte.
+fn after(whole: usize, got: io::Result<usize>) -> io::Result<Option<usize>>
+    requires counted { whole ≤ 4000000000000000000 }
+    requires few { IfOk got (λ n. n ≤ 1000000) }
+    ensures { result ≡ after_of whole got }
 {
-    if a < b { a } else { b }
-}
-
-// What a read's answer means, of a read into that buffer.
-fn meaning(got: io::Result<usize>, buffer: &[u8]) -> Came
-    ensures { (result ≡ came_of got (length buffer.now)) × Within (length buffer.now) result }
-{
-    let Ok(n) = got else {
-        return Came::Failed;
-    };
-    let bytes = least(n, buffer.len());
-    if bytes == 0 {
-        return Came::End;
+    match got? {
+        0 => Ok(None),
+        n => Ok(Some(whole + n)),
     }
-    Came::Bytes(bytes)
 }
 
-// One read. Into a buffer without room nothing comes, which would not be the end.
-fn come<R: Read>(from: &mut R, buffer: &mut [u8]) -> Came
-    requires { 0 < length buffer.old }
-    ensures { Within (length buffer.old) result }
+// One read more, into the room that is left or, where there is none, past it.
+#[tactic(auto, using(crate::proofs::Reading::into_room, crate::proofs::Reading::past_it))]
+fn next<R: Read>(from: &mut R, buffer: &mut [u8], whole: usize) -> io::Result<Option<usize>>
+    requires room { length buffer.old ≡ kept_bytes }
+    requires counted { whole ≤ 4000000000000000000 }
+    ensures { Next (R.remaining from.old) (R.remaining from.new) buffer.old buffer.new whole result }
 {
-    let got = from.read(buffer);
-    meaning(got, buffer)
-}
-
-// One read into the room that is left or, where there is none, past it. What was kept before stays as it is.
-fn next<R: Read>(from: &mut R, kept: &mut [u8], input: Input) -> Input
-    requires { (length kept.old ≡ kept_bytes) × (input.kept ≡ min kept_bytes input.whole) × (input.whole ≤ 4000000000000000000) }
-    ensures { Next kept_bytes input result × (take input.kept kept.new ≡ take input.kept kept.old) }
-{
-    let at = input.kept;
-    let room = kept.len();
-    if at < room {
-        let more = come(from, &mut kept[at..]);
-        return input.after(room, more);
+    if whole < buffer.len() {
+        after(whole, from.read(&mut buffer[whole..]))
+    } else {
+        let mut passed = [0u8; 4096];
+        after(whole, from.read(&mut passed))
     }
-    let mut passed = [0u8; 4096];
-    let more = come(from, &mut passed);
-    input.after(room, more)
 }
 
-// Reads an input to its end or to a failure, keeping what the buffer holds and counting the rest. One that goes on and on counts
-// as failed.
-pub fn read<R: Read>(from: &mut R, kept: &mut [u8]) -> Input
-    requires { length kept.old ≡ kept_bytes }
-    ensures { ReadTo kept_bytes result }
+// Reads an input to its end, keeping what the buffer holds and counting the rest. One that goes on and on can't be read.
+pub fn read<'a, R: Read>(from: &mut R, buffer: &'a mut [u8]) -> io::Result<Kept<'a>>
+    requires { length buffer.old ≡ kept_bytes }
+    ensures read { IfOk result (λ k. ReadTo (R.remaining from.old) (R.remaining from.new) k.bytes.now k.whole) }
+    ensures unread { OnErr result (ReadSome (R.remaining from.old) (R.remaining from.new)) }
 {
-    let mut input = Input::none();
-    let mut turns: u64 = 1_000_000_000_000;
-    while 0 < turns {
-        input = next(from, kept, input);
-        let going = input.going;
-        if !going {
-            return input;
+    let mut whole = 0;
+    for _ in 0..1_000_000_000_000u64 {
+        match next(from, buffer, whole)? {
+            Some(more) => whole = more,
+            None => return Ok(Kept::first_of(buffer, whole)),
         }
-        turns -= 1;
     }
-    input.closed()
+    Err(io::Error::other("the input does not end"))
 }

@@ -29,12 +29,11 @@ kroner_gain (negsuc n) h = absurd (omega ints)
 pub unsigned_short : (n : ℕ) → n ≤ 2 ^ 63 → length (unsigned n) ≤ 20
 unsigned_short n h = rw length-append (omega (arith, decimal_length 16 (n / 100) (omega arith)))
 
-pub size_bound : (z : ℤ) → mag z < 2 ^ 63 → nat_abs z ≤ 2 ^ 63
-size_bound (pos n) h = omega arith
-size_bound (negsuc n) h = omega arith
-
 -- the text of any i64
 pub kroner_short : (z : ℤ) → mag z < 2 ^ 63 → length (kroner z) ≤ 21
 unfolding kroner
 kroner_short (pos n) h = let l = unsigned_short n (omega arith) in omega arith
 kroner_short (negsuc n) h = let l = unsigned_short (suc n) (omega arith) in omega arith
+
+-- what the proof of the function that writes cites
+pub ruleset write_rules = (kroner_loss, kroner_gain, unsigned_short)

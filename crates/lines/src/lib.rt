@@ -1,68 +1,80 @@
-// The lines of a listing, each put together from its end: a tag of at most eight bytes, and its fields.
-#![tactic(auto)]
+// The lines of a listing: a tag of at most eight bytes, and its fields.
+#![tactic(auto, unfolding(paper::specs::Listing::fields))]
 
-ghost use Rattle.std.specs.Prelude.{◌≡◌, List, [], ◌∷◌, ◌++◌, ◌+◌, ◌≤◌, length};
-ghost use Rattle.text.specs.Text.{room, right, shown};
-ghost use Rattle.paper.specs.Listing.{decimal, kroner as kroner_of, line};
+ghost use Rattle.std.specs.Prelude.{◌≡◌, [], ◌∷◌, ◌++◌, ◌+◌, ◌<◌, ◌≤◌, length};
+ghost use Rattle.text.specs.Text.{room};
+ghost use Rattle.paper.specs.Listing.{decimal, kroner as kroner_of, fields as fields_of, line};
 ghost use Rattle.lines.specs.Remarks.{remark as remark_of};
 
 use text::Text;
 
 // The end of a line.
 fn newline() -> Text
-    ensures { result ≡ right (10 ∷ []) }
+    ensures { result ≡ 10 ∷ [] }
 {
-    text::with_byte(text::empty(), 10)
+    Text::empty().with_byte(b'\n')
 }
 
-// A number before a text, with the space before it.
-fn number(t: Text, n: u64) -> Text
-    requires { (t ≡ right (shown t)) × (22 ≤ t.from) × (t.from ≤ room) }
-    ensures { result ≡ right (32 ∷ (decimal n ++ shown t)) }
+// A number by itself.
+#[tactic(auto, using(std::proofs::lemmas::Grind::common_steps, crate::proofs::Fields::number_short))]
+fn number(n: u64) -> Text
+    ensures written { result ≡ decimal n }
+    ensures short { length result ≤ 20 }
 {
-    text::with_byte(text::with_decimal(t, n), 32)
+    Text::empty().with_decimal(n)
 }
 
-// An amount before a text, with the space before it.
-fn amount(t: Text, z: i64) -> Text
-    requires { (t ≡ right (shown t)) × (22 ≤ t.from) × (t.from ≤ room) }
-    ensures { result ≡ right (32 ∷ (kroner_of z ++ shown t)) }
+// An amount by itself.
+#[tactic(auto, using(kroner::proofs::Signs::kroner_short))]
+fn amount(z: i64) -> Text
+    ensures written { result ≡ kroner_of z }
+    ensures short { length result ≤ 21 }
 {
-    let written = kroner::write(z);
-    let bytes = written.bytes;
-    let from = written.from;
-    text::with_byte(text::with_bytes(t, &bytes[from..]), 32)
+    kroner::write(z)
+}
+
+// The fields of a line, each with the space before it, and its end.
+#[tactic(auto, using(std::proofs::lemmas::Grind::common_steps, crate::proofs::Fields::fields_rules))]
+fn joined(fields: &[Text]) -> Text
+    requires { length (fields_of fields.now) ≤ room }
+    ensures { result ≡ fields_of fields.now }
+{
+    match fields {
+        [] => newline(),
+        [first, rest @ ..] => joined(rest).with_bytes(first.as_bytes()).with_byte(b' '),
+    }
 }
 
 // A total's line: the tag and the amount.
 pub fn total(tag: &[u8], z: i64) -> Text
     requires { length tag.now ≤ 8 }
-    ensures { result ≡ right (line tag.now (kroner_of z ∷ [])) }
+    ensures { result ≡ line tag.now (kroner_of z ∷ []) }
 {
-    text::with_bytes(amount(newline(), z), tag)
+    joined(&[amount(z)]).with_bytes(tag)
 }
 
 // A line of two numbers: a class with its point, a refusal with its place.
 pub fn numbers(tag: &[u8], first: u64, last: u64) -> Text
     requires { length tag.now ≤ 8 }
-    ensures { result ≡ right (line tag.now (decimal first ∷ decimal last ∷ [])) }
+    ensures { result ≡ line tag.now (decimal first ∷ decimal last ∷ []) }
 {
-    text::with_bytes(number(number(newline(), last), first), tag)
+    joined(&[number(first), number(last)]).with_bytes(tag)
 }
 
 // An instrument's line: its number, point and amount there.
 pub fn item(tag: &[u8], i: u64, point: u64, z: i64) -> Text
     requires { length tag.now ≤ 8 }
-    ensures { result ≡ right (line tag.now (decimal i ∷ decimal point ∷ kroner_of z ∷ [])) }
+    ensures { result ≡ line tag.now (decimal i ∷ decimal point ∷ kroner_of z ∷ []) }
 {
-    text::with_bytes(number(number(amount(newline(), z), point), i), tag)
+    joined(&[number(i), number(point), amount(z)]).with_bytes(tag)
 }
 
 // A remark in words with a number in it: what stands before the number, what after it, and what is said.
+#[tactic(auto, using(std::proofs::lemmas::Grind::common_steps, crate::proofs::Fields::number_short))]
 pub fn remark(front: &[u8], n: u64, middle: &[u8], meaning: &[u8]) -> Text
     requires { length front.now + length middle.now + length meaning.now ≤ 70 }
-    ensures { result ≡ right (remark_of front.now n middle.now meaning.now) }
+    ensures { result ≡ remark_of front.now n middle.now meaning.now }
 {
-    let said = text::with_bytes(text::with_bytes(newline(), meaning), middle);
-    text::with_bytes(text::with_decimal(said, n), front)
+    let said = newline().with_bytes(meaning).with_bytes(middle);
+    said.with_decimal(n).with_bytes(front)
 }

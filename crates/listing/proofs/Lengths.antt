@@ -1,4 +1,5 @@
 -- No listing is longer than the buffer that the program has for it. Assumes nothing.
+use Rattle.std.specs.Prelude.{Ok}
 use mathlib.Core.Path.{◌≡◌, ◌∙◌}
 use mathlib.Core.List.{List, [], ◌∷◌, ◌++◌}
 use Prim.Native.Nat.{ℕ, ◌+◌, ◌^◌, ◌≤◌, ◌<◌}
@@ -10,7 +11,6 @@ use mir.Val.{SFits}
 use Rattle.paper.specs.declared.Shape.{Shape}
 use Rattle.paper.specs.declared.Fault.{Fault}
 use Rattle.paper.specs.declared.Fault.TheVariants.{Length, Letter, Order, Limit, Reserved, Reference, Range, Points, Rows, Choice}
-use Rattle.paper.specs.declared.Verdict.TheVariants.{Sound}
 use Rattle.paper.specs.Refusals.{verdict_of}
 use Rattle.paper.specs.Trees.{class_choice, item_choice}
 use Rattle.paper.specs.Answers.{code_of, walk_of, figures}
@@ -56,7 +56,7 @@ pub refused_short : (f : Fault) (place : ℕ) → place < 2 ^ 64 → length (ref
 refused_short f place h =
     omega (arith, two_long REFUSED (decimal (code_of f)) (decimal place), decimal_length 1 (code_of f) (omega (arith, code_most f)), decimal_length 19 place (omega arith))
 
-module _ (b : List ℕ) (s : Shape) (sound : verdict_of b ≡ Sound s) where
+module _ (b : List ℕ) (s : Shape) (sound : verdict_of b ≡ Ok s) where
   class_short : (k : ℕ) → k < s.classes → length (class_line (walk_of b s) k) ≤ 13
   class_short k h =
       let ok = sound_book b s sound in
@@ -93,7 +93,7 @@ module _ (b : List ℕ) (s : Shape) (sound : verdict_of b ≡ Sound s) where
         total_short CROSS f.cross (cross_fits b s sound),
       )
 
-  pub sound_short : length (listing_for b (Sound s)) ≤ most
+  pub sound_short : length (listing_for b (Ok s)) ≤ most
   unfolding listing_for
   sound_short =
       let ok = sound_book b s sound in

@@ -4,4 +4,5 @@ pub mod Sounds
 pub mod Lengths
 pub mod Whole
 pub mod Reasons
+pub mod Edge
 pub mod Determined

@@ -1,4 +1,5 @@
 -- Texts written one after the other. Assumes nothing.
+use Rattle.std.specs.Prelude.{None, Some}
 use mathlib.Core.Path.{◌≡◌, refl, ap, ◌∙◌}
 use mathlib.Core.List.{List, [], ◌++◌, append_assoc, append-nil}
 use Prim.Native.Nat.{ℕ, zero, suc, ◌+◌, ◌*◌, ◌≤◌, ◌<◌}
@@ -10,10 +11,6 @@ use borrow.Author.Tests.{lt-ltb, le-ltb}
 use lib.ListN.{length, take, drop, length-append, take-append-drop}
 use lib.Seq.{length-take-le, take_at, drop_at, drop-drop}
 use Rattle.paper.specs.Listing.{lines}
-use Rattle.text.specs.declared.Text.{Text}
-use Rattle.text.specs.Text.{right, shown}
-use Rattle.lines.proofs.Fields.{shows}
-use Rattle.listing.specs.declared.page.Page.TheVariants.{Written, Short}
 use Rattle.listing.specs.Page.{Added, most, Printed}
 
 -- nothing is written
@@ -30,13 +27,6 @@ module _ {out out' out'' : List ℕ} {at r q : ℕ} {s t : List ℕ} where
       let g : drop r out' ≡ drop r out = ap (drop r) a.holds ∙ drop_at (take at out ++ s) (drop r out) r k in
       let d : drop q out' ≡ drop q out = rw (b.next, ← drop-drop (length t) r out', ← drop-drop (length t) r out, g) in
       record { next = rw length-append (omega arith); same = b.same ∙ a.same; holds = b.holds ∙ rw (f, d) (simp append_assoc) }
-
--- what a text shows is what it was made of
-pub written : {out out' : List ℕ} {at r : ℕ} {t : Text} (s : List ℕ) → t ≡ right s → Added out at (shown t) r out' → Added out at s r out'
-written s e a = rw (← shows s e) a
-
-pub shown_length : {t : Text} (s : List ℕ) → t ≡ right s → length (shown t) ≡ length s
-shown_length s e = ap length (shows s e)
 
 lines_next : (k : ℕ) (f : ℕ → List ℕ) → lines (k + 1) f ≡ lines k f ++ f k
 unfolding lines
@@ -61,9 +51,6 @@ module _ (s t u out : List ℕ) (h : length (s ++ (t ++ u)) ≤ length out) wher
   parts : length (s ++ (t ++ u)) ≡ length s + (length t + length u)
   parts = length-append s (t ++ u) ∙ ap (λ (n : ℕ). length s + n) (length-append t u)
 
-  pub fits_first : length s ≤ length out
-  fits_first = omega (arith, parts)
-
   pub fits_next : {r : ℕ} {out' : List ℕ} → Added out 0 s r out' → r + length t ≤ length out'
   fits_next a = omega (arith, parts, a.next, a.same)
 
@@ -81,10 +68,10 @@ lines_short zero w f e = omega arith
 lines_short (suc n) w f e = rw length-append (omega (arith, lines_short n w f (λ k h. e k (omega arith)), e n (omega arith), suc-mul n w))
 
 -- a buffer that is too short, and one that is not
-pub too_short : (s out : List ℕ) → length s ≤ most → length out < most → Printed s out Short out
+pub too_short : (s out : List ℕ) → length s ≤ most → length out < most → Printed s out None out
 too_short s out l h = let e = lt-ltb (length out) most h in record { fits = l; answers = rw e; holds = rw e }
 
-pub printed : (s out : List ℕ) {out' : List ℕ} {r : ℕ} → length s ≤ most → most ≤ length out → Added out 0 s r out' → Printed s out (Written r) out'
+pub printed : (s out : List ℕ) {out' : List ℕ} {r : ℕ} → length s ≤ most → most ≤ length out → Added out 0 s r out' → Printed s out (Some r) out'
 printed s out {r} l h a =
     let e = le-ltb (length out) most h in
     let n : r ≡ length s = omega arith in

@@ -1,24 +1,15 @@
 -- A listing written into a buffer, and its lines as the choice buffer has them.
-use Rattle.std.specs.Prelude.{◌≡◌, false, cond, List, [], ◌∷◌, ◌++◌, ℕ, ◌+◌, ◌*◌, ◌/◌, ◌≤◌, min, ltb, length, take, drop}
+use Rattle.std.specs.Prelude.{◌≡◌, cond, List, [], ◌∷◌, ◌++◌, ℕ, ◌+◌, ◌*◌, ◌/◌, ◌≤◌, ltb, ℤ, length, take, drop, Option, None, Some, Ok, Err}
 use Rattle.paper.specs.declared.Shape.{Shape}
 use Rattle.paper.specs.declared.Totals.{Totals}
 use Rattle.paper.specs.declared.Fault.TheVariants.{Length}
-use Rattle.paper.specs.declared.Verdict.{Verdict}
-use Rattle.paper.specs.declared.Verdict.TheVariants.{Sound, Refused}
 use Rattle.paper.specs.Records.{record_bytes, whole_records, kind_at}
-use Rattle.paper.specs.Refusals.{most_classes, most_instruments, verdict_of}
+use Rattle.paper.specs.Refusals.{most_classes, most_instruments, Verdict, verdict_of}
 use Rattle.paper.specs.Answers.{code_of, class_point}
-use Rattle.paper.specs.Listing.{decimal, kroner, line, lines, CLASS, ITEM, REFUSED, kept_bytes, total_lines, listing_of}
-use Rattle.text.specs.declared.Text.{Text}
-use Rattle.text.specs.Text.{right}
+use Rattle.paper.specs.Listing.{decimal, kroner, line, lines, CLASS, ITEM, REFUSED, total_lines, listing_of}
 use Rattle.words.specs.Words.{refusal_line}
-use Rattle.intake.specs.declared.Input.{Input}
-use Rattle.margin.specs.declared.Item.{Item}
-use Rattle.margin.specs.declared.Item.TheVariants.{Amount, Nothing}
 use Rattle.margin.specs.Items.{item_of}
 use Rattle.margin.specs.Counted.{Counted}
-use Rattle.listing.specs.declared.page.Page.{Page}
-use Rattle.listing.specs.declared.page.Page.TheVariants.{Written, Short}
 
 -- a text s was written into the buffer from `at` on and ends at r; all else is as it was
 pub record Added (out : List ℕ) (at : ℕ) (s : List ℕ) (r : ℕ) (out' : List ℕ) : Type 0 where
@@ -31,9 +22,9 @@ abbrev pub class_in : List ℕ → ℕ → List ℕ
 class_in choice k = line CLASS (decimal k ∷ decimal (class_point choice k) ∷ [])
 
 -- the line of instrument i at a point, where there is such an item
-abbrev pub item_text : ℕ → ℕ → Item → List ℕ
-item_text i point (Amount z) = line ITEM (decimal i ∷ decimal point ∷ kroner z ∷ [])
-item_text i point Nothing = []
+abbrev pub item_text : ℕ → ℕ → Option ℤ → List ℕ
+item_text i point (Some z) = line ITEM (decimal i ∷ decimal point ∷ kroner z ∷ [])
+item_text i point None = []
 
 -- the line of instrument i, with its point in the choice buffer after those of the classes
 abbrev pub item_in : List ℕ → List ℕ → ℕ → ℕ → List ℕ
@@ -52,22 +43,15 @@ abbrev pub most : ℕ
 most = 26 + 28 + 28 + most_classes * 13 + most_instruments * 34
 
 -- the text s stands in the buffer, unless that is too short for some listing: then nothing was written
-pub record Printed (s out : List ℕ) (page : Page) (out' : List ℕ) : Type 0 where
+pub record Printed (s out : List ℕ) (page : Option ℕ) (out' : List ℕ) : Type 0 where
   pub fits : length s ≤ most
-  pub answers : page ≡ cond (ltb (length out) most) Short (Written (length s))
+  pub answers : page ≡ cond (ltb (length out) most) None (Some (length s))
   pub holds : out' ≡ cond (ltb (length out) most) out (s ++ drop (length s) out)
 
 -- of every book that was so kept and counted it is the book's listing; what is of no book is refused as a faulty length
-abbrev pub Listed : List ℕ → ℕ → List ℕ → Page → List ℕ → Type 0
+abbrev pub Listed : List ℕ → ℕ → List ℕ → Option ℕ → List ℕ → Type 0
 Listed kept size out page out' =
     Counted kept size (λ b. Printed (listing_of b) out page out') (Printed (refused_line (code_of Length) (size / record_bytes)) out page out')
-
--- the reading is over without a failure, and of the buffer as much is kept as it has room for
-pub record ReadWhole (buffer : List ℕ) (read : Input) : Type 0 where
-  pub room : length buffer ≡ kept_bytes
-  pub first : read.kept ≡ min kept_bytes read.whole
-  pub over : read.going ≡ false
-  pub ended : read.failed ≡ false
 
 -- the kind of a record that was kept, and none of any other
 abbrev pub kind_kept : List ℕ → ℕ → ℕ
@@ -75,10 +59,10 @@ kind_kept b r = cond (ltb r (whole_records b)) (kind_at b r) 0
 
 -- what is said of a verdict on a book: a refusal in words, with the kind of the record at its place; of a sound book nothing
 abbrev pub said : List ℕ → Verdict → List ℕ
-said b (Sound s) = []
-said b (Refused f place) = refusal_line f place (kind_at b place)
+said b (Ok s) = []
+said b (Err r) = refusal_line r.fault r.place (kind_at b r.place)
 
 -- of every book that was so kept and counted the text is of its verdict; what is of no book is a faulty length
-abbrev pub Explained : List ℕ → ℕ → Text → Type 0
+abbrev pub Explained : List ℕ → ℕ → List ℕ → Type 0
 Explained kept size t =
-    Counted kept size (λ b. t ≡ right (said b (verdict_of b))) (t ≡ right (refusal_line Length (size / record_bytes) 0))
+    Counted kept size (λ b. t ≡ said b (verdict_of b)) (t ≡ refusal_line Length (size / record_bytes) 0)

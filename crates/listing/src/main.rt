@@ -2,50 +2,68 @@
 // refusal is said in words too, on standard error.
 #![tactic(auto)]
 
-ghost use Rattle.std.specs.Prelude.{◌≤◌};
-ghost use Rattle.text.specs.Text.{room};
-ghost use Rattle.listing.specs.Page.{ReadWhole};
+ghost use Rattle.std.specs.Prelude.{OnOk};
+ghost use Rattle.std.specs.Io.KnownBytes.{Appends};
+ghost use Rattle.listing.specs.Evening.{Handed, Told, Evening};
 
-use intake::Input;
+use intake::Kept;
+use std::io;
+use std::io::{Read, Write};
 use text::Text;
 
 mod page; // page.rt: the listing's text
 
-// Writes the listing of what was read into the buffer: whether all of it was written.
-fn shown(to: &impl Print, buffer: &[u8], read: Input) -> bool
-    requires { ReadWhole buffer.now read }
-{
-    let mut out = [0u8; 2570];
-    let n = page::whole_listing(buffer, read, &mut out);
-    to.write_all(&out[..n]).is_ok()
+// What an evening failed in: no book was read, its listing was cut, or what is said of it was.
+#[derive(Clone, Copy)]
+enum Failure {
+    Unread,
+    Cut,
+    Untold,
 }
 
-// Says a line on standard error, in one write; an empty one is nothing.
-fn told(to: &impl Print, line: Text)
-    requires { line.from ≤ room }
+// Hands over the listing of what was read, in one write.
+fn list<W: Write>(to: &mut W, read: Kept) -> io::Result<()>
+    ensures { OnOk result (Handed read.entry.bytes.now read.entry.whole (W.contents to.old) (W.contents to.new)) }
 {
-    let bytes = line.bytes;
-    let from = line.from;
-    let _ = to.write_all(&bytes[from..]);
+    let mut out = [0u8; 2570];
+    let n = page::whole_listing(read, &mut out);
+    to.write_all(&out[..n])
+}
+
+// Says a line, in one write; an empty one is nothing.
+fn say<W: Write>(to: &mut W, line: Text) -> io::Result<()>
+    ensures { OnOk result (Appends (W.contents to.old) (W.contents to.new) line) }
+{
+    to.write_all(line.as_bytes())
 }
 
 // Says why the book was refused, if it was.
-fn explained(to: &impl Print, buffer: &[u8], read: Input)
-    requires { ReadWhole buffer.now read }
+fn explain<W: Write>(to: &mut W, read: Kept) -> io::Result<()>
+    ensures { OnOk result (Told read.entry.bytes.now read.entry.whole (W.contents to.old) (W.contents to.new)) }
 {
-    told(to, page::whole_reason(buffer, read));
+    say(to, page::whole_reason(read))
+}
+
+// The evening: the one output has the listing of the book that came behind what it held, and the other what is said of it.
+fn evening<R: Read, W: Write, E: Write>(
+    from: &mut R,
+    to: &mut W,
+    err: &mut E,
+) -> Result<(), Failure>
+    ensures { Evening (R.remaining from.old) (R.remaining from.new) (W.contents to.old) (W.contents to.new) (E.contents err.old) (E.contents err.new) result }
+{
+    let mut kept = [0u8; 11040];
+    let read = intake::read(from, &mut kept).map_err(|_| Failure::Unread)?;
+    list(to, read).map_err(|_| Failure::Cut)?;
+    explain(err, read).map_err(|_| Failure::Untold)
 }
 
 fn main(rt: HostRuntime) {
-    let mut kept = [0u8; 11040];
-    let read = intake::read(&mut rt.stdin(), &mut kept);
-    if read.failed {
-        let _ = rt.eprint("listing: the book could not be read\n");
-        return;
-    }
-    if !shown(&rt, &kept, read) {
-        let _ = rt.eprint("listing: the listing could not be written whole\n");
-        return;
-    }
-    explained(&rt.stderr(), &kept, read);
+    let ended = evening(&mut rt.stdin(), &mut rt.stdout(), &mut rt.stderr());
+    let complaint = match ended {
+        Err(Failure::Unread) => "listing: the book could not be read\n",
+        Err(Failure::Cut) => "listing: the listing could not be written whole\n",
+        Err(Failure::Untold) | Ok(()) => return,
+    };
+    let _ = rt.eprint(complaint);
 }

@@ -1,4 +1,6 @@
 -- An answer's code, place and totals determine it. Assumes nothing.
+use Rattle.std.specs.Prelude.{Ok, Err}
+use Rattle.paper.specs.Answers.{Answer}
 use mathlib.Core.Path.{◌≡◌, refl, sym, ap, ap₂, ◌∙◌}
 use mathlib.Core.Bool.{cond}
 use Prim.Native.Nat.{ℕ, ◌≤◌}
@@ -6,8 +8,6 @@ use native.Mathlib.Omega.{arith}
 use lib.Dec.{eqb}
 use Rattle.paper.specs.declared.Fault.{Fault}
 use Rattle.paper.specs.declared.Fault.TheVariants.{Length, Letter, Order, Limit, Reserved, Reference, Range, Points, Rows, Choice}
-use Rattle.paper.specs.declared.Answer.{Answer}
-use Rattle.paper.specs.declared.Answer.TheVariants.{Accepted, Refused}
 use Rattle.paper.specs.Answers.{code_of, answer_code, answer_place, answer_totals}
 
 -- the fault of a code
@@ -53,7 +53,7 @@ above_zero Rows = omega arith
 above_zero Choice = omega arith
 
 pub same_answer : (a b : Answer) → answer_code a ≡ answer_code b → answer_place a ≡ answer_place b → answer_totals a ≡ answer_totals b → a ≡ b
-same_answer (Accepted t) (Accepted u) code place totals = ap Accepted totals
-same_answer (Accepted t) (Refused g q) code place totals = absurd (omega (arith, above_zero g))
-same_answer (Refused f p) (Accepted u) code place totals = absurd (omega (arith, above_zero f))
-same_answer (Refused f p) (Refused g q) code place totals = ap₂ Refused (same_fault f g code) place
+same_answer (Ok t) (Ok u) code place totals = ap Ok totals
+same_answer (Ok t) (Err q) code place totals = absurd (omega (arith, above_zero q.fault))
+same_answer (Err r) (Ok u) code place totals = absurd (omega (arith, above_zero r.fault))
+same_answer (Err r) (Err q) code place totals = ap₂ (λ f p. Err (record { fault = f; place = p })) (same_fault r.fault q.fault code) place

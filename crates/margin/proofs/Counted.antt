@@ -1,5 +1,7 @@
 -- What was kept of a book, with its length, has the verdict and the run of the whole; and whether there is such a book.
 -- Assumes nothing.
+use Rattle.std.specs.Prelude.{Ok, Err}
+use Rattle.paper.specs.Refusals.{Verdict, refused}
 use mathlib.Core.Path.{◌≡◌, refl, sym, ap, subst, ◌∙◌}
 use mathlib.Core.Bool.{true, false}
 use mathlib.Core.List.{List, ◌++◌, append-nil}
@@ -15,8 +17,6 @@ use Rattle.paper.specs.declared.Fault.{Fault}
 use Rattle.paper.specs.declared.Fault.TheVariants.{Length}
 use Rattle.paper.specs.declared.Shape.{Shape}
 use Rattle.paper.specs.declared.Totals.{Totals}
-use Rattle.paper.specs.declared.Verdict.{Verdict}
-use Rattle.paper.specs.declared.Verdict.TheVariants.{Sound, Refused}
 use Rattle.paper.specs.Records.{record_bytes, whole_records}
 use Rattle.paper.specs.Refusals.{length_fault, verdict_of, verdict_on}
 use Rattle.paper.specs.Answers.{code_of, no_totals, rows_after, choice_after}
@@ -27,16 +27,16 @@ use Rattle.book.proofs.Verdicts.{whole_length, length_in, all_sound}
 use Rattle.book.proofs.Kept.{kept}
 use Rattle.margin.specs.Run.{Ran}
 use Rattle.margin.specs.Counted.{KeptOf, OfNoBook, whole_kept, CountedVerdict, CountedRan}
-use Rattle.margin.proofs.Promises.{no_refusal, refused}
+use Rattle.margin.proofs.Promises.{no_refusal, turned_down}
 
 -- what a verdict on the kept book means for the whole one: all of it was kept, or both are refused alike
 pub data Alike (b : List ℕ) : Type 0 where
   all_kept : take kept_bytes b ≡ b → Alike b
-  both_refused : (f : Fault) (place : ℕ) → verdict_of b ≡ Refused f place → verdict_of (take kept_bytes b) ≡ Refused f place → Alike b
+  both_refused : (f : Fault) (place : ℕ) → verdict_of b ≡ refused f place → verdict_of (take kept_bytes b) ≡ refused f place → Alike b
 
 long : (b : List ℕ) (v : Verdict) → verdict_of b ≡ v → length_fault b ≡ false → kept_records ≤ whole_records b → Alike b
-long b (Sound s) e w h = absurd (never_longer b s (omega arith) e)
-long b (Refused f place) e w h = both_refused f place e (sym (kept b w h) ∙ e)
+long b (Ok s) e w h = absurd (never_longer b s (omega arith) e)
+long b (Err r) e w h = both_refused r.fault r.place e (sym (kept b w h) ∙ e)
 
 pub alike : (b : List ℕ) → length_fault b ≡ false → Alike b
 alike b w = elim (dec_lt (whole_records b) kept_records) [
@@ -45,7 +45,7 @@ alike b w = elim (dec_lt (whole_records b) kept_records) [
 ]
 
 -- anything that is read of a book and its verdict, and of a refusal alone where it is refused, is the same of what was kept
-pub of_kept : {A : Type 0} (f : List ℕ → Verdict → A) → ((b c : List ℕ) (g : Fault) (place : ℕ) → f b (Refused g place) ≡ f c (Refused g place)) →
+pub of_kept : {A : Type 0} (f : List ℕ → Verdict → A) → ((b c : List ℕ) (g : Fault) (place : ℕ) → f b (refused g place) ≡ f c (refused g place)) →
     (b : List ℕ) → Alike b → f (take kept_bytes b) (verdict_of (take kept_bytes b)) ≡ f b (verdict_of b)
 of_kept f same b (all_kept e) = rw e
 of_kept f same b (both_refused g place e k) = rw (e, k) (same (take kept_bytes b) b g place)
@@ -95,8 +95,8 @@ module _ (b k : List ℕ) (size : ℕ) (of : KeptOf b k size) where
   whole_verdict : whole_kept (length k) size ≡ true → verdict_of k ≡ verdict_of b
   whole_verdict h = ap verdict_of of.first ∙ of_kept (λ c v. v) (λ b c g place. refl) b (alike b (whole_of h))
 
-  torn_verdict : whole_kept (length k) size ≡ false → verdict_of b ≡ Refused Length (size / record_bytes)
-  torn_verdict h = length_in b (torn_of h) ∙ ap (λ (n : ℕ). Refused Length (n / record_bytes)) (sym of.counted)
+  torn_verdict : whole_kept (length k) size ≡ false → verdict_of b ≡ refused Length (size / record_bytes)
+  torn_verdict h = length_in b (torn_of h) ∙ ap (λ (n : ℕ). refused Length (n / record_bytes)) (sym of.counted)
 
 -- what is kept whole is of a book
 some_book : (k : List ℕ) (size : ℕ) → whole_kept (length k) size ≡ true → KeptOf (some k size) k size
@@ -106,7 +106,7 @@ module _ (k : List ℕ) (size : ℕ) where
   pub counted_whole : whole_kept (length k) size ≡ true → CountedVerdict k size (verdict_of k)
   counted_whole h = record { of_book = λ b of. whole_verdict b k size of h; of_none = λ none. absurd (none (some k size) (some_book k size h)) }
 
-  pub counted_torn : whole_kept (length k) size ≡ false → CountedVerdict k size (Refused Length (size / record_bytes))
+  pub counted_torn : whole_kept (length k) size ≡ false → CountedVerdict k size (refused Length (size / record_bytes))
   counted_torn h = record { of_book = λ b of. sym (torn_verdict b k size of h); of_none = λ none. refl }
 
 -- ---- the run
@@ -134,7 +134,7 @@ module _ (rows : List ℤ) (choice : List ℕ) (code place : ℕ) (totals : Tota
 pub ran_torn : (k : List ℕ) (size : ℕ) (rows : List ℤ) (choice : List ℕ) → whole_kept (length k) size ≡ false → CountedRan k size rows choice (code_of Length) (size / record_bytes) no_totals rows choice
 unfolding verdict_on
 ran_torn k size rows choice h = record {
-  of_book = λ b of. refused b rows choice Length (size / record_bytes) (rw (torn_verdict b k size of h));
+  of_book = λ b of. turned_down b rows choice Length (size / record_bytes) (rw (torn_verdict b k size of h));
   of_none = λ none. record { code_is = refl; place_is = refl; totals_are = refl; rows_hold = refl; choice_holds = refl };
 }
 
@@ -146,16 +146,16 @@ by_book k size of_some none = elim (ℕ_discrete (length k) (min kept_bytes size
 ]
 
 -- a counted book that is sound is what was kept of it
-module _ (k : List ℕ) (size : ℕ) (s : Shape) (v : CountedVerdict k size (Sound s)) where
-  sound_book_of : (b : List ℕ) → KeptOf b k size → (verdict_of k ≡ Sound s) × Alike b
+module _ (k : List ℕ) (size : ℕ) (s : Shape) (v : CountedVerdict k size (Ok s)) where
+  sound_book_of : (b : List ℕ) → KeptOf b k size → (verdict_of k ≡ Ok s) × Alike b
   sound_book_of b of =
-      let e : verdict_of b ≡ Sound s = sym (v.of_book b of) in
+      let e : verdict_of b ≡ Ok s = sym (v.of_book b of) in
       let a : Alike b = alike b (all_sound b s e).whole in
       (ap verdict_of of.first ∙ of_kept (λ c w. w) (λ b c g place. refl) b a ∙ e, a)
 
-  pub counted_sound : verdict_of k ≡ Sound s
+  pub counted_sound : verdict_of k ≡ Ok s
   counted_sound = by_book k size (λ b of. (sound_book_of b of).0) (λ none. absurd (no_refusal (sym (v.of_none none))))
 
-  pub counted_read : {A : Type 0} (f : List ℕ → Verdict → A) → ((b c : List ℕ) (g : Fault) (place : ℕ) → f b (Refused g place) ≡ f c (Refused g place)) →
+  pub counted_read : {A : Type 0} (f : List ℕ → Verdict → A) → ((b c : List ℕ) (g : Fault) (place : ℕ) → f b (refused g place) ≡ f c (refused g place)) →
       (b : List ℕ) → KeptOf b k size → f k (verdict_of k) ≡ f b (verdict_of b)
   counted_read f same b of = rw of.first (of_kept f same b (sound_book_of b of).1)

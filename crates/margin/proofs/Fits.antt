@@ -1,4 +1,5 @@
 -- The figures of a sound book, mark-to-market among them, each fit an i64, and its points are on the scale. Assumes nothing.
+use Rattle.std.specs.Prelude.{Ok}
 use mathlib.Core.Path.{◌≡◌}
 use mathlib.Core.List.{List}
 use Prim.Native.Nat.{ℕ, ◌<◌}
@@ -7,7 +8,6 @@ use lib.IntN.{pos, +ℤ_idl}
 use mir.Syntax.{w64}
 use mir.Val.{SFits}
 use Rattle.paper.specs.declared.Shape.{Shape}
-use Rattle.paper.specs.declared.Verdict.TheVariants.{Sound}
 use Rattle.paper.specs.Refusals.{verdict_of}
 use Rattle.paper.specs.Products.{mark_total, naked_total}
 use Rattle.paper.specs.Trees.{class_choice, item_choice}
@@ -17,7 +17,7 @@ use Rattle.tree.proofs.Bounds.{fits}
 use Rattle.tree.proofs.Theorem.{lowest_total}
 use Rattle.tree.proofs.Book.{valid, bounds}
 
-module _ (b : List ℕ) (s : Shape) (sound : verdict_of b ≡ Sound s) where
+module _ (b : List ℕ) (s : Shape) (sound : verdict_of b ≡ Ok s) where
   pub mark_fits : SFits w64 (figures b s).mark
   unfolding mark_total
   mark_fits = rw +ℤ_idl at (marks_fit b s sound s.positions (pos 0) (omega arith) (omega arith))

@@ -1,4 +1,6 @@
 -- From a verdict and the figures to the three promises. Assumes nothing.
+use Rattle.std.specs.Prelude.{Ok, Err}
+use Rattle.paper.specs.Refusals.{Verdict, refused}
 use mathlib.Core.Path.{◌≡◌, refl, sym, ap, ◌∙◌}
 use mathlib.Core.List.{List, ◌++◌}
 use Prim.Native.Nat.{ℕ, ◌+◌, ◌*◌, ◌≤◌, ◌<◌}
@@ -10,8 +12,6 @@ use lib.ListN.{length, drop, get_or-append}
 use Rattle.paper.specs.declared.Shape.{Shape}
 use Rattle.paper.specs.declared.Totals.{Totals}
 use Rattle.paper.specs.declared.Fault.{Fault}
-use Rattle.paper.specs.declared.Verdict.{Verdict}
-use Rattle.paper.specs.declared.Verdict.TheVariants.{Sound, Refused}
 use Rattle.paper.specs.Sums.{listed}
 use Rattle.paper.specs.Records.{whole_records}
 use Rattle.paper.specs.Refusals.{verdict_of, verdict_on, with_room}
@@ -27,25 +27,25 @@ use Rattle.margin.specs.Run.{Figured, Ran}
 
 -- what acceptance says of a book and of the lengths of the buffers
 pub record Admitted (b : List ℕ) (rows choice : ℕ) (s : Shape) : Type 0 where
-  pub sound : verdict_of b ≡ Sound s
+  pub sound : verdict_of b ≡ Ok s
   pub rows_fit : s.classes * s.points ≤ rows
   pub choice_fits : s.classes + s.instruments ≤ choice
 
-pub no_refusal : {f : Fault} {place : ℕ} {s : Shape} → Refused f place ≡ Sound s → ⊥
+pub no_refusal : {f : Fault} {place : ℕ} {s : Shape} → refused f place ≡ Ok s → ⊥
 no_refusal {f} {place} {s} e = let z : ◌≡◌ {A = ℕ} 0 1 = cc in omega arith
 
-pub room : (b : List ℕ) (rows choice : ℕ) (s : Shape) → verdict_on b rows choice ≡ Sound s → Admitted b rows choice s
+pub room : (b : List ℕ) (rows choice : ℕ) (s : Shape) → verdict_on b rows choice ≡ Ok s → Admitted b rows choice s
 unfolding verdict_on
 room b rows choice s h = go (verdict_of b) refl h
   where
-    go : (v : Verdict) → verdict_of b ≡ v → with_room v (whole_records b) rows choice ≡ Sound s → Admitted b rows choice s
-    go (Refused f place) e k = absurd (no_refusal k)
-    go (Sound t) e k = elim (dec_lt rows (t.classes * t.points)) [
+    go : (v : Verdict) → verdict_of b ≡ v → with_room v (whole_records b) rows choice ≡ Ok s → Admitted b rows choice s
+    go (Err r) e k = absurd (no_refusal k)
+    go (Ok t) e k = elim (dec_lt rows (t.classes * t.points)) [
       | yes l ↦ absurd (no_refusal (rw (lt-ltb rows (t.classes * t.points) l) at k))
       | no l ↦ elim (dec_lt choice (t.classes + t.instruments)) [
         | yes m ↦ absurd (no_refusal (rw (le-ltb rows (t.classes * t.points) (omega arith), lt-ltb choice (t.classes + t.instruments) m) at k))
         | no m ↦
-            let q : Sound t ≡ Sound s = rw (le-ltb rows (t.classes * t.points) (omega arith), le-ltb choice (t.classes + t.instruments) (omega arith)) at k in
+            let q : Ok t ≡ Ok s = rw (le-ltb rows (t.classes * t.points) (omega arith), le-ltb choice (t.classes + t.instruments) (omega arith)) at k in
             let same : t ≡ s = cc in
             rw (← same) (record { sound = e; rows_fit = omega arith; choice_fits = omega arith })
       ]
@@ -88,14 +88,14 @@ module _ (w : Walk) (choice : List ℕ) where
       ∙ get_or-append (listed instruments f) (drop (classes + instruments) choice) 0 i (rw (listed_length instruments f) h)
       ∙ listed_at instruments i f 0 h
 
-pub lowest : (b : List ℕ) (s : Shape) (choice : List ℕ) → verdict_of b ≡ Sound s →
+pub lowest : (b : List ℕ) (s : Shape) (choice : List ℕ) → verdict_of b ≡ Ok s →
     let t = (walk_of b s).tree in LowestTotal t (cross_of t (row_of t)) (class_point (choice_for (walk_of b s) choice)) (item_point t (choice_for (walk_of b s) choice))
 lowest b s choice sound =
     let w = walk_of b s in
     agreed w.tree (valid b s sound) _ _ _ _ _ (class_read w choice) (item_read w choice) (lowest_total w.tree (valid b s sound))
 
 module _ (b : List ℕ) (rows : List ℤ) (choice : List ℕ) where
-  pub accepted : (s : Shape) (totals : Totals) (rows' : List ℤ) (choice' : List ℕ) → verdict_on b (length rows) (length choice) ≡ Sound s →
+  pub accepted : (s : Shape) (totals : Totals) (rows' : List ℤ) (choice' : List ℕ) → verdict_on b (length rows) (length choice) ≡ Ok s →
       Figured b s rows choice totals rows' choice' → Ran b rows choice 0 0 totals rows' choice'
   unfolding rows_after choice_after
   accepted s totals rows' choice' e f = record {
@@ -105,14 +105,14 @@ module _ (b : List ℕ) (rows : List ℤ) (choice : List ℕ) where
     rows_hold = f.rows_hold ∙ sym (ap (λ (v : Verdict). rows_on b v rows) e);
     choice_holds = f.choice_holds ∙ sym (ap (λ (v : Verdict). choice_on b v choice) e);
     lowest = λ t k.
-        let q : Sound s ≡ Sound t = sym e ∙ k in
+        let q : Ok s ≡ Ok t = sym e ∙ k in
         let same : s ≡ t = cc in
         rw (← same, f.choice_holds, f.totalled) (lowest b s choice (room b (length rows) (length choice) s e).sound);
   }
 
-  pub refused : (f : Fault) (place : ℕ) → verdict_on b (length rows) (length choice) ≡ Refused f place → Ran b rows choice (code_of f) place no_totals rows choice
+  pub turned_down : (f : Fault) (place : ℕ) → verdict_on b (length rows) (length choice) ≡ refused f place → Ran b rows choice (code_of f) place no_totals rows choice
   unfolding rows_after choice_after
-  refused f place e = record {
+  turned_down f place e = record {
     code_is = sym (ap code_given e);
     place_is = sym (ap place_given e);
     totals_are = sym (ap (totals_given b) e);

@@ -1,4 +1,6 @@
 -- Codes 9 and 10 are given exactly when the paper says, and an empty book is accepted with zeros. Assumes nothing.
+use Rattle.std.specs.Prelude.{Ok, Err}
+use Rattle.paper.specs.Refusals.{Verdict, refused}
 use mathlib.Core.Path.{◌≡◌, refl, sym, ap, ap₂, ◌∙◌}
 use mathlib.Core.List.{List, []}
 use Prim.Native.Nat.{ℕ, ◌+◌, ◌*◌, ◌≤◌, ◌<◌}
@@ -11,15 +13,13 @@ use Rattle.paper.specs.declared.Shape.{Shape}
 use Rattle.paper.specs.declared.Totals.{Totals}
 use Rattle.paper.specs.declared.Fault.{Fault}
 use Rattle.paper.specs.declared.Fault.TheVariants.{Length, Rows, Choice}
-use Rattle.paper.specs.declared.Verdict.{Verdict}
-use Rattle.paper.specs.declared.Verdict.TheVariants.{Sound, Refused}
 use Rattle.paper.specs.Sums.{sum, listed}
 use Rattle.paper.specs.Records.{whole_records, le16, class_at, shape_of, count}
 use Rattle.paper.specs.Refusals.{verdict_from, verdict_of, verdict_on, with_room}
 use Rattle.paper.specs.Products.{mark_total, naked_total}
 use Rattle.paper.specs.Trees.{cross_of}
 use Rattle.paper.specs.Answers.{code_of, no_totals, code_given, place_given, rows_for, choice_for, rows_after, choice_after}
-use Rattle.book.proofs.Verdicts.{refused_out, record_fault}
+use Rattle.book.proofs.Verdicts.{refused_out, record_fault, same_refused}
 use Rattle.margin.specs.Run.{Ran}
 use Rattle.margin.proofs.Answers.{same_fault}
 use Rattle.margin.proofs.Promises.{no_refusal}
@@ -27,14 +27,14 @@ use Rattle.margin.proofs.Promises.{no_refusal}
 -- code 9: the book is sound, and the rows buffer is shorter than classes times points
 pub record ShortRows (b : List ℕ) (rows place : ℕ) : Type 0 where
   pub shape : Shape
-  pub sound : verdict_of b ≡ Sound shape
+  pub sound : verdict_of b ≡ Ok shape
   pub short : rows < shape.classes * shape.points
   pub place_is : place ≡ whole_records b
 
 -- code 10: the book is sound and its rows fit, and the choice buffer is shorter than classes plus instruments
 pub record ShortChoice (b : List ℕ) (rows choice place : ℕ) : Type 0 where
   pub shape : Shape
-  pub sound : verdict_of b ≡ Sound shape
+  pub sound : verdict_of b ≡ Ok shape
   pub fits : shape.classes * shape.points ≤ rows
   pub short : choice < shape.classes + shape.instruments
   pub place_is : place ≡ whole_records b
@@ -55,7 +55,7 @@ choice_in b rows choice place h =
     rw (h.sound, le-ltb rows (s.classes * s.points) h.fits, lt-ltb choice (s.classes + s.instruments) h.short) (refl, sym h.place_is)
 
 -- a fault of the book itself is not of the buffers
-own : (b : List ℕ) (f : Fault) (place : ℕ) → verdict_of b ≡ Refused f place → code_of f ≤ 8
+own : (b : List ℕ) (f : Fault) (place : ℕ) → verdict_of b ≡ refused f place → code_of f ≤ 8
 own b f place e = elim (dec_lt 8 (code_of f)) [
   | yes h ↦ absurd (omega (arith, (record_fault b place (refused_out b f place (λ k. by k h) e).faulty).1))
   | no h ↦ omega arith
@@ -66,44 +66,44 @@ own b f place e = elim (dec_lt 8 (code_of f)) [
 
 module _ (b : List ℕ) (rows choice place : ℕ) where
   -- of the verdict on the book, and what the lengths make of it
-  rows_of : (v : Verdict) → verdict_of b ≡ v → with_room v (whole_records b) rows choice ≡ Refused Rows place → ShortRows b rows place
-  rows_of (Refused f p) e k =
-      let g : f ≡ Rows = cc in
-      absurd (omega (arith, rw g at (own b f p e)))
-  rows_of (Sound s) e k = elim (dec_lt rows (s.classes * s.points)) [
+  rows_of : (v : Verdict) → verdict_of b ≡ v → with_room v (whole_records b) rows choice ≡ refused Rows place → ShortRows b rows place
+  rows_of (Err r) e k =
+      let g : r.fault ≡ Rows = (same_refused Rows r.fault r.place place k).0 in
+      absurd (omega (arith, rw g at (own b r.fault r.place e)))
+  rows_of (Ok s) e k = elim (dec_lt rows (s.classes * s.points)) [
     | yes h ↦
-        let q : Refused Rows (whole_records b) ≡ Refused Rows place = rw (lt-ltb rows (s.classes * s.points) h) at k in
-        let w : whole_records b ≡ place = cc in
+        let q : refused Rows (whole_records b) ≡ refused Rows place = rw (lt-ltb rows (s.classes * s.points) h) at k in
+        let w : whole_records b ≡ place = (same_refused Rows Rows (whole_records b) place q).1 in
         record { shape = s; sound = e; short = h; place_is = sym w }
     | no h ↦ elim (dec_lt choice (s.classes + s.instruments)) [
       | yes l ↦
-          let q : Refused Choice (whole_records b) ≡ Refused Rows place = rw (le-ltb rows (s.classes * s.points) (omega arith), lt-ltb choice (s.classes + s.instruments) l) at k in
-          absurd (let z : ◌≡◌ {A = Fault} Choice Rows = cc in let y : ◌≡◌ {A = ℕ} 10 9 = ap code_of z in omega arith)
+          let q : refused Choice (whole_records b) ≡ refused Rows place = rw (le-ltb rows (s.classes * s.points) (omega arith), lt-ltb choice (s.classes + s.instruments) l) at k in
+          absurd (let z : ◌≡◌ {A = Fault} Choice Rows = (same_refused Rows Choice (whole_records b) place q).0 in let y : ◌≡◌ {A = ℕ} 10 9 = ap code_of z in omega arith)
       | no l ↦ absurd (no_refusal (sym (rw (le-ltb rows (s.classes * s.points) (omega arith), le-ltb choice (s.classes + s.instruments) (omega arith)) at k)))
     ]
   ]
 
-  choice_of : (v : Verdict) → verdict_of b ≡ v → with_room v (whole_records b) rows choice ≡ Refused Choice place → ShortChoice b rows choice place
-  choice_of (Refused f p) e k =
-      let g : f ≡ Choice = cc in
-      absurd (omega (arith, rw g at (own b f p e)))
-  choice_of (Sound s) e k = elim (dec_lt rows (s.classes * s.points)) [
+  choice_of : (v : Verdict) → verdict_of b ≡ v → with_room v (whole_records b) rows choice ≡ refused Choice place → ShortChoice b rows choice place
+  choice_of (Err r) e k =
+      let g : r.fault ≡ Choice = (same_refused Choice r.fault r.place place k).0 in
+      absurd (omega (arith, rw g at (own b r.fault r.place e)))
+  choice_of (Ok s) e k = elim (dec_lt rows (s.classes * s.points)) [
     | yes h ↦
-        let q : Refused Rows (whole_records b) ≡ Refused Choice place = rw (lt-ltb rows (s.classes * s.points) h) at k in
-        absurd (let z : ◌≡◌ {A = Fault} Rows Choice = cc in let y : ◌≡◌ {A = ℕ} 9 10 = ap code_of z in omega arith)
+        let q : refused Rows (whole_records b) ≡ refused Choice place = rw (lt-ltb rows (s.classes * s.points) h) at k in
+        absurd (let z : ◌≡◌ {A = Fault} Rows Choice = (same_refused Choice Rows (whole_records b) place q).0 in let y : ◌≡◌ {A = ℕ} 9 10 = ap code_of z in omega arith)
     | no h ↦ elim (dec_lt choice (s.classes + s.instruments)) [
       | yes l ↦
-          let q : Refused Choice (whole_records b) ≡ Refused Choice place = rw (le-ltb rows (s.classes * s.points) (omega arith), lt-ltb choice (s.classes + s.instruments) l) at k in
-          let w : whole_records b ≡ place = cc in
+          let q : refused Choice (whole_records b) ≡ refused Choice place = rw (le-ltb rows (s.classes * s.points) (omega arith), lt-ltb choice (s.classes + s.instruments) l) at k in
+          let w : whole_records b ≡ place = (same_refused Choice Choice (whole_records b) place q).1 in
           record { shape = s; sound = e; fits = omega arith; short = l; place_is = sym w }
       | no l ↦ absurd (no_refusal (sym (rw (le-ltb rows (s.classes * s.points) (omega arith), le-ltb choice (s.classes + s.instruments) (omega arith)) at k)))
     ]
   ]
 
   -- a refusal with that code is that of the buffer
-  refused_as : (g : Fault) (v : Verdict) → Gives v (code_of g) place → 0 < code_of g → v ≡ Refused g place
-  refused_as g (Sound s) h l = absurd (omega (arith, h.0))
-  refused_as g (Refused f p) h l = ap₂ Refused (same_fault f g h.0) h.1
+  refused_as : (g : Fault) (v : Verdict) → Gives v (code_of g) place → 0 < code_of g → v ≡ refused g place
+  refused_as g (Ok s) h l = absurd (omega (arith, h.0))
+  refused_as g (Err r) h l = ap₂ refused (same_fault r.fault g h.0) h.1
 
   pub rows_out : Gives (verdict_on b rows choice) 9 place → ShortRows b rows place
   unfolding verdict_on
@@ -117,7 +117,7 @@ module _ (b : List ℕ) (rows choice place : ℕ) where
 abbrev nothing : Shape
 nothing = record { classes = 0; instruments = 0; positions = 0; points = 0 }
 
-empty_sound : (rows choice : ℕ) → verdict_on [] rows choice ≡ Sound nothing
+empty_sound : (rows choice : ℕ) → verdict_on [] rows choice ≡ Ok nothing
 unfolding verdict_on verdict_of verdict_from shape_of count class_at le16
 empty_sound rows choice = rw (le-ltb rows 0 (omega arith), le-ltb choice 0 (omega arith))
 

@@ -1,11 +1,9 @@
 -- A book of which the first records were kept and the bytes counted: its verdict and its run are those of the whole book.
 use Rattle.std.specs.Prelude.{◌≡◌, Bool, ◌&&◌, List, ℕ, ◌/◌, ◌%◌, min, eqb, ℤ, length, take}
 use Rattle.paper.specs.declared.Totals.{Totals}
-use Rattle.paper.specs.declared.Verdict.{Verdict}
-use Rattle.paper.specs.declared.Verdict.TheVariants.{Refused}
 use Rattle.paper.specs.declared.Fault.TheVariants.{Length}
 use Rattle.paper.specs.Records.{record_bytes}
-use Rattle.paper.specs.Refusals.{verdict_of}
+use Rattle.paper.specs.Refusals.{Verdict, refused, verdict_of}
 use Rattle.paper.specs.Answers.{code_of, no_totals}
 use Rattle.paper.specs.Listing.{kept_bytes}
 use Rattle.margin.specs.Run.{Ran}
@@ -30,7 +28,7 @@ pub record Counted (kept : List ℕ) (size : ℕ) (P : List ℕ → Type 0) (non
 
 -- the verdict is the book's; what is of no book is refused as a faulty length
 abbrev pub CountedVerdict : List ℕ → ℕ → Verdict → Type 0
-CountedVerdict kept size v = Counted kept size (λ b. v ≡ verdict_of b) (v ≡ Refused Length (size / record_bytes))
+CountedVerdict kept size v = Counted kept size (λ b. v ≡ verdict_of b) (v ≡ refused Length (size / record_bytes))
 
 -- what is of no book has no figures: code 1, the whole records counted as place, zero totals, neither buffer altered
 pub record NoFigures (size : ℕ) (rows : List ℤ) (choice : List ℕ) (code place : ℕ) (totals : Totals) (rows' : List ℤ) (choice' : List ℕ) : Type 0 where

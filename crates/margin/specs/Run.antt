@@ -1,8 +1,7 @@
 -- The three promises of a run over a book, with the rows and choice lent, and what these hold afterwards.
-use Rattle.std.specs.Prelude.{◌≡◌, List, ℕ, ℤ, length}
+use Rattle.std.specs.Prelude.{◌≡◌, List, ℕ, ℤ, length, Ok}
 use Rattle.paper.specs.declared.Shape.{Shape}
 use Rattle.paper.specs.declared.Totals.{Totals}
-use Rattle.paper.specs.declared.Verdict.TheVariants.{Sound}
 use Rattle.paper.specs.Refusals.{verdict_on}
 use Rattle.paper.specs.Answers.{walk_of, figures, rows_for, choice_for, code_given, place_given, totals_given, rows_after, choice_after, LowestOfBook}
 
@@ -22,4 +21,4 @@ pub record Ran (b : List ℕ) (rows : List ℤ) (choice : List ℕ) (code place 
   pub rows_hold : rows' ≡ rows_after b rows choice
   pub choice_holds : choice' ≡ choice_after b rows choice
   -- on acceptance: no allowed choice has a lower total than the cross margin, and the choice handed back is one and has it
-  pub lowest : (s : Shape) → verdict_on b (length rows) (length choice) ≡ Sound s → LowestOfBook b s totals.cross choice'
+  pub lowest : (s : Shape) → verdict_on b (length rows) (length choice) ≡ Ok s → LowestOfBook b s totals.cross choice'

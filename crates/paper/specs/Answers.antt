@@ -1,15 +1,12 @@
 -- "What comes back": the answer's numbers, and what the two buffers lent hold afterwards.
-use Rattle.std.specs.Prelude.{List, ◌++◌, ℕ, ◌+◌, ◌*◌, ◌/◌, ◌%◌, ℤ, pos, ◌+ℤ◌, length, drop, get_or}
+use Rattle.std.specs.Prelude.{List, ◌++◌, ℕ, ◌+◌, ◌*◌, ◌/◌, ◌%◌, ℤ, pos, ◌+ℤ◌, length, drop, get_or, Result, Ok, Err}
 use Rattle.paper.specs.declared.Shape.{Shape}
 use Rattle.paper.specs.declared.Totals.{Totals}
 use Rattle.paper.specs.declared.Fault.{Fault}
 use Rattle.paper.specs.declared.Fault.TheVariants.{Length, Letter, Order, Limit, Reserved, Reference, Range, Points, Rows, Choice}
-use Rattle.paper.specs.declared.Verdict.{Verdict}
-use Rattle.paper.specs.declared.Verdict.TheVariants.{Sound, Refused}
-use Rattle.paper.specs.declared.Answer.{Answer}
-use Rattle.paper.specs.declared.Answer.TheVariants as answer
+use Rattle.paper.specs.declared.Refusal.{Refusal}
 use Rattle.paper.specs.Sums.{listed}
-use Rattle.paper.specs.Refusals.{verdict_on}
+use Rattle.paper.specs.Refusals.{Verdict, verdict_on}
 use Rattle.paper.specs.Products.{terms_of, positions_of, mark_total, naked_total}
 use Rattle.paper.specs.Trees.{Tree, tree_of, row_of, cross_of, class_choice, item_choice, LowestTotal}
 
@@ -39,18 +36,22 @@ code_of Points = 8
 code_of Rows = 9
 code_of Choice = 10
 
+-- what a run answers: the totals, or the refusal
+abbrev pub Answer : Type 0
+Answer = Result Totals Refusal
+
 -- "The answer is a code, a place, and the totals": these numbers of each case of an answer
 abbrev pub answer_code : Answer → ℕ
-answer_code (answer.Accepted t) = 0
-answer_code (answer.Refused f place) = code_of f
+answer_code (Ok t) = 0
+answer_code (Err r) = code_of r.fault
 
 abbrev pub answer_place : Answer → ℕ
-answer_place (answer.Accepted t) = 0
-answer_place (answer.Refused f place) = place
+answer_place (Ok t) = 0
+answer_place (Err r) = r.place
 
 abbrev pub answer_totals : Answer → Totals
-answer_totals (answer.Accepted t) = t
-answer_totals (answer.Refused f place) = no_totals
+answer_totals (Ok t) = t
+answer_totals (Err r) = no_totals
 
 -- a tree with the rows that its results are read from
 pub record Walk : Type 0 where
@@ -73,16 +74,16 @@ figures b s = record {
 
 -- what a verdict gives: "Acceptance is code 0 and place 0."; "Every refusal has zero totals"
 abbrev pub code_given : Verdict → ℕ
-code_given (Sound s) = 0
-code_given (Refused f place) = code_of f
+code_given (Ok s) = 0
+code_given (Err r) = code_of r.fault
 
 abbrev pub place_given : Verdict → ℕ
-place_given (Sound s) = 0
-place_given (Refused f place) = place
+place_given (Ok s) = 0
+place_given (Err r) = r.place
 
 abbrev pub totals_given : List ℕ → Verdict → Totals
-totals_given b (Sound s) = figures b s
-totals_given b (Refused f place) = no_totals
+totals_given b (Ok s) = figures b s
+totals_given b (Err r) = no_totals
 
 -- "Row k occupies entries k times points onward in the rows buffer, one row a class." "Entries past these are untouched."
 unfoldable pub rows_for : Walk → List ℤ → List ℤ
@@ -100,12 +101,12 @@ choice_for w choice =
 
 -- "Two lent buffers are written on acceptance"; a refusal has "neither buffer altered"
 abbrev pub rows_on : List ℕ → Verdict → List ℤ → List ℤ
-rows_on b (Sound s) rows = rows_for (walk_of b s) rows
-rows_on b (Refused f place) rows = rows
+rows_on b (Ok s) rows = rows_for (walk_of b s) rows
+rows_on b (Err r) rows = rows
 
 abbrev pub choice_on : List ℕ → Verdict → List ℕ → List ℕ
-choice_on b (Sound s) choice = choice_for (walk_of b s) choice
-choice_on b (Refused f place) choice = choice
+choice_on b (Ok s) choice = choice_for (walk_of b s) choice
+choice_on b (Err r) choice = choice
 
 -- what the buffers hold after a run of a book that was lent them
 unfoldable pub rows_after : List ℕ → List ℤ → List ℕ → List ℤ

@@ -1,11 +1,9 @@
 -- "The evening listing": its text, a list of bytes.
-use Rattle.std.specs.Prelude.{cond, List, [], ◌∷◌, ◌++◌, ℕ, zero, suc, ◌+◌, ◌*◌, ◌/◌, ◌%◌, ltb, ℤ, nat_abs}
+use Rattle.std.specs.Prelude.{cond, List, [], ◌∷◌, ◌++◌, ℕ, zero, suc, ◌+◌, ◌*◌, ◌/◌, ◌%◌, ltb, ℤ, nat_abs, Ok, Err}
 use Rattle.std.specs.Int.Signed.{non_neg}
 use Rattle.paper.specs.declared.Totals.{Totals}
-use Rattle.paper.specs.declared.Verdict.{Verdict}
-use Rattle.paper.specs.declared.Verdict.TheVariants.{Sound, Refused}
 use Rattle.paper.specs.Records.{record_bytes}
-use Rattle.paper.specs.Refusals.{most_classes, most_instruments, most_positions, verdict_of}
+use Rattle.paper.specs.Refusals.{most_classes, most_instruments, most_positions, Verdict, verdict_of}
 use Rattle.paper.specs.Trees.{class_choice, item_choice}
 use Rattle.paper.specs.Answers.{code_of, Walk, walk_of, figures}
 
@@ -89,9 +87,9 @@ total_lines f = line MTM (kroner f.mark ∷ []) ++ (line NAKED (kroner f.naked �
 
 -- "After CROSS each class has a CLASS line and then each instrument an ITEM line"; "or one line with REFUSED, code and place"
 unfoldable pub listing_for : List ℕ → Verdict → List ℕ
-listing_for b (Sound s) =
+listing_for b (Ok s) =
     total_lines (figures b s) ++ (lines s.classes (class_line (walk_of b s)) ++ lines s.instruments (item_line (walk_of b s)))
-listing_for b (Refused f place) = line REFUSED (decimal (code_of f) ∷ decimal place ∷ [])
+listing_for b (Err r) = line REFUSED (decimal (code_of r.fault) ∷ decimal r.place ∷ [])
 
 -- the whole output
 unfoldable pub listing_of : List ℕ → List ℕ

@@ -1,5 +1,7 @@
 -- "The book": its records and their fields. A book is the list of its bytes; the fields are read out of it.
-use Rattle.std.specs.Prelude.{Bool, cond, List, ℕ, zero, suc, ◌+◌, ◌*◌, ◌/◌, eqb, pos, length, get_or}
+use Rattle.std.specs.Prelude.{Bool, cond, List, ℕ, zero, suc, ◌+◌, ◌*◌, ◌/◌, eqb, pos, length, get_or, Option, None, Some}
+use Rattle.paper.specs.declared.Kind.{Kind}
+use Rattle.paper.specs.declared.Kind.TheVariants as kinds
 use Rattle.paper.specs.declared.Class.{Class}
 use Rattle.paper.specs.declared.Instrument.{Instrument}
 use Rattle.paper.specs.declared.Position.{Position}
@@ -33,6 +35,13 @@ by_kind kind class instrument position none =
 -- "letter": C is 67, I 73, P 80
 unfoldable pub kind_of : ℕ → ℕ
 kind_of letter = cond (eqb letter 67) 1 (cond (eqb letter 73) 2 (cond (eqb letter 80) 3 0))
+
+-- the rank of a kind, and of none
+abbrev pub rank : Option Kind → ℕ
+rank None = 0
+rank (Some kinds.Class) = 1
+rank (Some kinds.Instrument) = 2
+rank (Some kinds.Position) = 3
 
 -- the kind of record r
 abbrev pub kind_at : List ℕ → ℕ → ℕ

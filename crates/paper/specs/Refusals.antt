@@ -1,16 +1,15 @@
 -- The limits of "The book", the refusal table of "What comes back", and the order of its tests.
-use Rattle.std.specs.Prelude.{Bool, true, false, not, ◌&&◌, ◌||◌, cond, List, [], ◌∷◌, ℕ, zero, suc, ◌+◌, ◌*◌, ◌%◌, eqb, leb, ltb, ℤ, pos, length}
+use Rattle.std.specs.Prelude.{Bool, true, false, not, ◌&&◌, ◌||◌, cond, List, [], ◌∷◌, ℕ, zero, suc, ◌+◌, ◌*◌, ◌%◌, eqb, leb, ltb, ℤ, pos, length, Result, Ok, Err}
 use Rattle.std.specs.Int.Signed.{le_z}
 use Rattle.paper.specs.declared.Class.{Class}
 use Rattle.paper.specs.declared.Instrument.{Instrument}
 use Rattle.paper.specs.declared.Position.{Position}
+use Rattle.paper.specs.declared.Product.{Product}
+use Rattle.paper.specs.declared.Product.TheVariants.{Fra, Future, Bond}
 use Rattle.paper.specs.declared.Shape.{Shape}
 use Rattle.paper.specs.declared.Fault.{Fault}
 use Rattle.paper.specs.declared.Fault.TheVariants.{Length, Letter, Order, Limit, Reserved, Reference, Range, Points, Rows, Choice}
-use Rattle.paper.specs.declared.Finding.{Finding}
-use Rattle.paper.specs.declared.Finding.TheVariants.{Clean, Faulty}
-use Rattle.paper.specs.declared.Verdict.{Verdict}
-use Rattle.paper.specs.declared.Verdict.TheVariants.{Sound, Refused}
+use Rattle.paper.specs.declared.Refusal.{Refusal}
 use Rattle.paper.specs.Records.{record_bytes, whole_records, byte, by_kind, kind_at, root, class_at, instrument_at, position_at, traded_today, shape_of, instrument_of}
 
 -- "At most 24 classes, 64 instruments, 256 positions."
@@ -39,6 +38,10 @@ share_fits share = leb share 10000
 abbrev pub by_product {ℓ} : {A : Type ℓ} → ℕ → A → A → A → A → A
 by_product product fra future bond none =
     cond (eqb product 1) fra (cond (eqb product 2) future (cond (eqb product 3) bond none))
+
+-- the product of a number; any other is out of its range
+abbrev pub product_of : ℕ → Result Product Fault
+product_of number = by_product number (Ok Fra) (Ok Future) (Ok Bond) (Err Range)
 
 -- "The days must be 1 to 366 for product 1 and 0 for the others."
 abbrev pub days_fit : ℕ → ℕ → Bool
@@ -208,23 +211,34 @@ tests b r s =
     ∷ test Points (points_fault b r s)
     ∷ []
 
+-- what the tests of one record find: nothing, or a fault
+abbrev pub Finding : Type 0
+Finding = Result (Unit {0}) Fault
+
 -- the first that is given
 unfoldable pub first_given : List Test → Finding
-first_given [] = Clean
-first_given (t ∷ ts) = cond t.given (Faulty t.fault) (first_given ts)
+first_given [] = Ok tt
+first_given (t ∷ ts) = cond t.given (Err t.fault) (first_given ts)
 
 -- what the tests of record r find, after those before it
 unfoldable pub finding_at : List ℕ → ℕ → Finding
 finding_at b r = first_given (tests b r (shape_of b r))
 
+-- what the tests of a whole book find: its shape, or the first fault and its place
+abbrev pub Verdict : Type 0
+Verdict = Result Shape Refusal
+
+abbrev pub refused : Fault → ℕ → Verdict
+refused f r = Err (record { fault = f; place = r })
+
 -- at the end of a book of n records nothing more is tested
 abbrev pub at_end : List ℕ → ℕ → Verdict
-at_end b n = Sound (shape_of b n)
+at_end b n = Ok (shape_of b n)
 
 -- a faulty record ends the reading, with its number as place
 abbrev pub or_else : Finding → ℕ → Verdict → Verdict
-or_else Clean r later = later
-or_else (Faulty f) r later = Refused f r
+or_else (Ok none) r later = later
+or_else (Err f) r later = refused f r
 
 -- the verdict where the records before r are clean and n are left
 unfoldable pub verdict_from : List ℕ → ℕ → ℕ → Verdict
@@ -233,13 +247,13 @@ verdict_from b r (suc n) = or_else (finding_at b r) r (verdict_from b (r + 1) n)
 
 -- "Code 1 is tested first, then each record in file order"; "An empty book is accepted with zeros."
 unfoldable pub verdict_of : List ℕ → Verdict
-verdict_of b = cond (length_fault b) (Refused Length (whole_records b)) (verdict_from b 0 (whole_records b))
+verdict_of b = cond (length_fault b) (refused Length (whole_records b)) (verdict_from b 0 (whole_records b))
 
 -- "then 9, then 10", with the whole records as place
 abbrev pub with_room : Verdict → ℕ → ℕ → ℕ → Verdict
-with_room (Sound s) whole rows choice =
-    cond (rows_fault s rows) (Refused Rows whole) (cond (choice_fault s choice) (Refused Choice whole) (Sound s))
-with_room (Refused f place) whole rows choice = Refused f place
+with_room (Ok s) whole rows choice =
+    cond (rows_fault s rows) (refused Rows whole) (cond (choice_fault s choice) (refused Choice whole) (Ok s))
+with_room (Err r) whole rows choice = Err r
 
 -- the verdict on a book and on the lengths of the two buffers lent
 unfoldable pub verdict_on : List ℕ → ℕ → ℕ → Verdict

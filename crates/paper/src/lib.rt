@@ -4,7 +4,33 @@
 ghost use Rattle.std.specs.Prelude.{◌≡◌, ℤ, pos, ◌+ℤ◌};
 ghost use Rattle.std.specs.Int.{w64};
 ghost use Rattle.std.proofs.Common.{SFits};
+ghost use Rattle.paper.specs.Records.{bought, traded_today};
+ghost use Rattle.paper.specs.Refusals.{product_of};
 ghost use Rattle.paper.specs.Answers.{code_of, answer_code, answer_place, answer_totals, no_totals, add_mark, add_naked, add_cross};
+
+// What an instrument is, by its product's number.
+#[derive(Clone, Copy, Debug, PartialEq, Eq)]
+pub enum Product {
+    Fra = 1,
+    Future = 2,
+    Bond = 3,
+}
+
+// A number that is of no product is out of its range.
+impl TryFrom<u8> for Product {
+    type Error = Fault;
+
+    ghost try_from_gives = { λ number r. r ≡ product_of number };
+
+    fn try_from(number: u8) -> Result<Product, Fault> {
+        match number {
+            1 => Ok(Product::Fra),
+            2 => Ok(Product::Future),
+            3 => Ok(Product::Bond),
+            _ => Err(Fault::Range),
+        }
+    }
+}
 
 // A class record's fields.
 #[derive(Clone, Copy)]
@@ -14,7 +40,8 @@ pub struct Class {
     pub share: u16,
 }
 
-// An instrument record's fields. Yields, prices, Par and Adj are signed from the reader on.
+// An instrument record's fields. Yields, prices, Par and Adj are signed from the reader on. The product is the byte that stands in the
+// book, of a damaged one too: `Record::instrument` promises it as it is.
 #[derive(Clone, Copy)]
 pub struct Instrument {
     pub product: u8,
@@ -26,7 +53,7 @@ pub struct Instrument {
     pub adj: i64,
 }
 
-// A position record's fields.
+// A position record's fields. Side and traded are the bytes that stand in the book, of a damaged one too, as `Record::position` promises.
 #[derive(Clone, Copy)]
 pub struct Position {
     pub side: u8,
@@ -34,6 +61,22 @@ pub struct Position {
     pub quantity: u32,
     pub price: i64,
     pub traded: u8,
+}
+
+impl Position {
+    // Else it was sold.
+    pub fn bought(self) -> bool
+        ensures { result ≡ bought self }
+    {
+        self.side == 1
+    }
+
+    // Else it was carried over.
+    pub fn traded_today(self) -> bool
+        ensures { result ≡ traded_today self }
+    {
+        self.traded == 1
+    }
 }
 
 // What the positions hold of one instrument: bought less sold, and bought and sold together.
@@ -52,19 +95,27 @@ pub struct Shape {
     pub points: usize,
 }
 
-// The rows of the refusal table, in its order.
-#[derive(Clone, Copy)]
+// What a record is, by its letter, in the order of the book.
+#[derive(Clone, Copy, Debug, PartialEq, Eq, PartialOrd, Ord)]
+pub enum Kind {
+    Class,
+    Instrument,
+    Position,
+}
+
+// The rows of the refusal table, by their numbers there.
+#[derive(Clone, Copy, Debug, PartialEq, Eq)]
 pub enum Fault {
-    Length,
-    Letter,
-    Order,
-    Limit,
-    Reserved,
-    Reference,
-    Range,
-    Points,
-    Rows,
-    Choice,
+    Length = 1,
+    Letter = 2,
+    Order = 3,
+    Limit = 4,
+    Reserved = 5,
+    Reference = 6,
+    Range = 7,
+    Points = 8,
+    Rows = 9,
+    Choice = 10,
 }
 
 impl Fault {
@@ -72,73 +123,58 @@ impl Fault {
     pub fn code(self) -> u64
         ensures { result ≡ code_of self }
     {
-        match self {
-            Fault::Length => 1,
-            Fault::Letter => 2,
-            Fault::Order => 3,
-            Fault::Limit => 4,
-            Fault::Reserved => 5,
-            Fault::Reference => 6,
-            Fault::Range => 7,
-            Fault::Points => 8,
-            Fault::Rows => 9,
-            Fault::Choice => 10,
-        }
+        self as u64
     }
 }
 
-// What the tests of one record find.
-#[derive(Clone, Copy)]
-pub enum Finding {
-    Clean,
-    Faulty(Fault),
+// Why a book is refused: the first fault, and its place.
+#[derive(Clone, Copy, Debug, PartialEq, Eq)]
+pub struct Refusal {
+    pub fault: Fault,
+    pub place: usize,
 }
 
-// What the tests of a whole book find: its shape, or the first fault and its place.
-#[derive(Clone, Copy)]
-pub enum Verdict {
-    Sound(Shape),
-    Refused(Fault, usize),
+// The numbers of a run's answer, as C is handed them.
+pub trait Numbers {
+    fn code(self) -> u64;
+
+    fn place(self) -> usize;
+
+    fn totals(self) -> Totals;
 }
 
-// What comes back of a run.
-#[derive(Clone, Copy)]
-pub enum Answer {
-    Accepted(Totals),
-    Refused(Fault, usize),
-}
-
-impl Answer {
-    pub fn code(self) -> u64
+impl Numbers for Result<Totals, Refusal> {
+    fn code(self) -> u64
         ensures { result ≡ answer_code self }
     {
         match self {
-            Answer::Accepted(_) => 0,
-            Answer::Refused(f, _) => f.code(),
+            Ok(_) => 0,
+            Err(refusal) => refusal.fault.code(),
         }
     }
 
-    pub fn place(self) -> usize
+    fn place(self) -> usize
         ensures { result ≡ answer_place self }
     {
         match self {
-            Answer::Accepted(_) => 0,
-            Answer::Refused(_, place) => place,
+            Ok(_) => 0,
+            Err(refusal) => refusal.place,
         }
     }
 
     // Zero totals where refused.
-    pub fn totals(self) -> Totals
+    fn totals(self) -> Totals
         ensures { result ≡ answer_totals self }
     {
         match self {
-            Answer::Accepted(t) => t,
-            Answer::Refused(_, _) => Totals::none(),
+            Ok(totals) => totals,
+            Err(_) => Totals::none(),
         }
     }
 }
 
-// The running totals, in whole øre: each method takes them by value and hands them back with one amount more.
+// The running totals, in whole øre: each method takes them by value and hands them back with one amount more, in a field of its own,
+// which no parameter can name.
 #[derive(Clone, Copy)]
 pub struct Totals {
     pub mark: i64,
@@ -163,8 +199,7 @@ impl Totals {
     {
         Totals {
             mark: self.mark + amount,
-            naked: self.naked,
-            cross: self.cross,
+            ..self
         }
     }
 
@@ -173,9 +208,8 @@ impl Totals {
         ensures { result ≡ add_naked self amount }
     {
         Totals {
-            mark: self.mark,
             naked: self.naked + amount,
-            cross: self.cross,
+            ..self
         }
     }
 
@@ -184,9 +218,8 @@ impl Totals {
         ensures { result ≡ add_cross self amount }
     {
         Totals {
-            mark: self.mark,
-            naked: self.naked,
             cross: self.cross + amount,
+            ..self
         }
     }
 }

@@ -1,5 +1,5 @@
 -- Laws of the ranges, and of a field that is in its own.
 pub mod Choices
 pub mod Bounds
-mod Products
+pub mod Products
 pub mod Determined

@@ -1,5 +1,7 @@
 -- The ranges that a product decides as one value, and the fields of an instrument and of a position held to them.
 use Rattle.std.specs.Prelude.{Bool, ◌&&◌, ℕ, leb, ℤ, pos}
+use Rattle.paper.specs.declared.Product.{Product}
+use Rattle.paper.specs.declared.Product.TheVariants.{Fra, Future, Bond}
 use Rattle.paper.specs.declared.Instrument.{Instrument}
 use Rattle.paper.specs.declared.Position.{Position}
 use Rattle.paper.specs.Refusals.{within, quantity_fits, carried_fits}
@@ -21,6 +23,11 @@ future = record { first = 0; last = 0; price = up_to 200000000; par = up_to 1000
 
 abbrev pub bond : Limits
 bond = record { first = 0; last = 0; price = up_to 200000000; par = up_to 500000; adj = up_to 50000 }
+
+abbrev pub limits_of : Product → Limits
+limits_of Fra = fra
+limits_of Future = future
+limits_of Bond = bond
 
 abbrev pub instrument_holds : Instrument → Limits → Bool
 instrument_holds i l =

@@ -1,14 +1,13 @@
 // The ranges of the fields: what the fields of one record find. The product decides the ranges of an instrument and of a
-// position, and the code of a field that is out of them.
+// position.
 #![tactic(auto)]
 
-ghost use Rattle.std.specs.Prelude.{◌≡◌, cond};
+ghost use Rattle.std.specs.Prelude.{◌≡◌, cond, Ok, Err};
 ghost use Rattle.paper.specs.declared.Fault.TheVariants.{Range};
-ghost use Rattle.paper.specs.declared.Finding.TheVariants.{Clean, Faulty};
 ghost use Rattle.paper.specs.Refusals.{points_fit, carried_fits, class_fits, instrument_fits, position_fits};
-ghost use Rattle.ranges.specs.Limits.{holds as holds_of, fra as fra_of, future as future_of, bond as bond_of, instrument_holds, position_holds};
+ghost use Rattle.ranges.specs.Limits.{holds as holds_of, limits_of, instrument_holds, position_holds};
 
-use paper::{Class, Fault, Finding, Instrument, Position};
+use paper::{Class, Fault, Instrument, Position, Product};
 
 // A range: its lower end and its upper.
 #[derive(Clone, Copy)]
@@ -30,51 +29,41 @@ struct Limits {
     adj: Span,
 }
 
-// Fixings and prices are yields: the paper's limit is the full rate.
-fn fra() -> Limits
-    ensures { result ≡ fra_of }
-{
-    Limits {
-        first: 1,
-        last: 366,
-        price: Span(0, rate::Rate::FULL as i64),
-        par: Span(0, 10_000_000),
-        adj: Span(0, 1_000_000),
+impl Limits {
+    // An FRA's fixings and prices are yields: the paper's limit is the full rate.
+    fn of(product: Product) -> Limits
+        ensures { result ≡ limits_of product }
+    {
+        match product {
+            Product::Fra => Limits {
+                first: 1,
+                last: 366,
+                price: Span(0, rate::Rate::FULL as i64),
+                par: Span(0, 10_000_000),
+                adj: Span(0, 1_000_000),
+            },
+            Product::Future => Limits {
+                first: 0,
+                last: 0,
+                price: Span(0, 200_000_000),
+                par: Span(0, 10_000_000),
+                adj: Span(0, 1_000_000),
+            },
+            Product::Bond => Limits {
+                first: 0,
+                last: 0,
+                price: Span(0, 200_000_000),
+                par: Span(0, 500_000),
+                adj: Span(0, 50_000),
+            },
+        }
     }
 }
 
-fn future() -> Limits
-    ensures { result ≡ future_of }
+fn found(fits: bool, fault: Fault) -> Result<(), Fault>
+    ensures { result ≡ cond fits (Ok tt) (Err fault) }
 {
-    Limits {
-        first: 0,
-        last: 0,
-        price: Span(0, 200_000_000),
-        par: Span(0, 10_000_000),
-        adj: Span(0, 1_000_000),
-    }
-}
-
-fn bond() -> Limits
-    ensures { result ≡ bond_of }
-{
-    Limits {
-        first: 0,
-        last: 0,
-        price: Span(0, 200_000_000),
-        par: Span(0, 500_000),
-        adj: Span(0, 50_000),
-    }
-}
-
-fn found(fits: bool, fault: Fault) -> Finding
-    ensures { result ≡ cond fits Clean (Faulty fault) }
-{
-    if fits {
-        Finding::Clean
-    } else {
-        Finding::Faulty(fault)
-    }
+    if fits { Ok(()) } else { Err(fault) }
 }
 
 fn points_fit(points: u16) -> bool
@@ -83,8 +72,8 @@ fn points_fit(points: u16) -> bool
     (3 <= points) & (points <= 201) & (points % 2 == 1)
 }
 
-pub fn class_finding(c: Class) -> Finding
-    ensures { result ≡ cond (class_fits c) Clean (Faulty Range) }
+pub fn class_finding(c: Class) -> Result<(), Fault>
+    ensures { result ≡ cond (class_fits c) (Ok tt) (Err Range) }
 {
     found(points_fit(c.points) & (c.share <= 10_000), Fault::Range)
 }
@@ -100,24 +89,19 @@ fn instrument_holds(i: Instrument, l: Limits) -> bool
         & holds(l.adj, i.adj)
 }
 
-// The decision on the product: its ranges, and its code where a field is out of them.
-pub fn instrument_finding(i: Instrument) -> Finding
-    ensures { result ≡ cond (instrument_fits i) Clean (Faulty Range) }
+// A product that is none is out of its own range.
+pub fn instrument_finding(i: Instrument) -> Result<(), Fault>
+    ensures { result ≡ cond (instrument_fits i) (Ok tt) (Err Range) }
 {
-    let product = i.product;
-    match product {
-        1 => found(instrument_holds(i, fra()), Fault::Range),
-        2 => found(instrument_holds(i, future()), Fault::Range),
-        3 => found(instrument_holds(i, bond()), Fault::Range),
-        _ => Finding::Faulty(Fault::Range), // the product itself is out of its range
-    }
+    let product = Product::try_from(i.product)?;
+    found(instrument_holds(i, Limits::of(product)), Fault::Range)
 }
 
 // Zero is a price, but a carried position has no other.
 fn carried_fits(p: Position) -> bool
     ensures { result ≡ carried_fits p }
 {
-    (p.traded == 1) | holds(Span(0, 0), p.price)
+    p.traded_today() | holds(Span(0, 0), p.price)
 }
 
 fn position_holds(p: Position, l: Limits) -> bool
@@ -131,14 +115,10 @@ fn position_holds(p: Position, l: Limits) -> bool
         & carried_fits(p)
 }
 
-// The same decision for a position: the product is that of the instrument named.
-pub fn position_finding(p: Position, product: u8) -> Finding
-    ensures { result ≡ cond (position_fits p product) Clean (Faulty Range) }
+// The product is the byte of the instrument named, as its record has it.
+pub fn position_finding(p: Position, product: u8) -> Result<(), Fault>
+    ensures { result ≡ cond (position_fits p product) (Ok tt) (Err Range) }
 {
-    match product {
-        1 => found(position_holds(p, fra()), Fault::Range),
-        2 => found(position_holds(p, future()), Fault::Range),
-        3 => found(position_holds(p, bond()), Fault::Range),
-        _ => Finding::Faulty(Fault::Range),
-    }
+    let product = Product::try_from(product)?;
+    found(position_holds(p, Limits::of(product)), Fault::Range)
 }

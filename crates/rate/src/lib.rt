@@ -8,7 +8,7 @@ ghost use Rattle.paper.specs.Rounding.{nearest};
 // The nominal of every contract, DKK 1,000,000, in øre.
 const NOMINAL: u64 = 100_000_000;
 
-#[derive(Drop)]
+#[derive(Clone, Copy)]
 pub struct Rate {
     pub units: i64,
 }
@@ -24,19 +24,19 @@ impl Rate {
     const HUNDREDTH: u64 = Self::BASIS_POINT / 100;
 
     // So many basis points.
-    pub fn of_basis_points(n: u16) -> Rate
+    pub fn of_basis_points(n: u16) -> Self
         ensures { result.units ≡ pos (n * basis_point) }
     {
-        Rate {
-            units: (n as u64 * Self::BASIS_POINT) as i64,
+        Self {
+            units: (u64::from(n) * Self::BASIS_POINT) as i64,
         }
     }
 
     // 100 %: the nominal itself over a year.
-    pub fn full_rate() -> Rate
+    pub fn full_rate() -> Self
         ensures { result.units ≡ pos full_rate }
     {
-        Rate {
+        Self {
             units: Self::FULL as i64,
         }
     }
@@ -54,7 +54,7 @@ impl Rate {
         ensures { result ≡ nearest (self.units *ℤ pos days) (360 * fold) }
     {
         amount::nearest(
-            amount::times(self.units, days as i64),
+            amount::times(self.units, i64::from(days)),
             Self::UNIT_DAYS * fold,
         )
     }

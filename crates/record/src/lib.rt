@@ -1,105 +1,143 @@
 // One record of a book: its kind, the fields that the kind names, and the bytes that it does not.
 #![tactic(auto)]
 
-ghost use Rattle.std.specs.Prelude.{◌≡◌, ◌+◌, ◌*◌, ◌≤◌, length};
-ghost use Rattle.paper.specs.Records.{kind_of, kind_at, class_at, instrument_at, position_at};
+ghost use Rattle.std.specs.Prelude.{◌≡◌, ◌+◌, ◌*◌, ◌<◌, ◌≤◌, ◌==◌, pos, length};
+ghost use Rattle.std.specs.List.{list_all};
+ghost use Rattle.paper.specs.Records.{byte as byte_of, le16 as le16_of, le32 as le32_of, rank, kind_of, kind_at, class_at, instrument_at, position_at};
 ghost use Rattle.paper.specs.Refusals.{zeros as zeros_of, reserved_zero};
 
-use crate::bytes::{byte, le16, le32, signed};
-use paper::{Class, Instrument, Position};
+use paper::{Class, Instrument, Kind, Position};
 
-mod bytes; // bytes.rt: little-endian numbers at a byte of a record
+// A record by its number, which lies within the book.
+#[derive(Clone, Copy)]
+pub struct Record<'a> {
+    pub book: &'a [u8],
+    pub number: usize,
+    ghost within: { 32 * number + 32 ≤ length book.now },
+}
 
-// A kind is its rank in the book: classes, instruments, positions. 0 is none.
+// A record's letter says its kind.
 #[tactic(auto, unfolding(paper::specs::Records::kind_of))]
-fn kind(letter: u8) -> u8
-    ensures { result ≡ kind_of letter }
+fn kind_named(letter: u8) -> Option<Kind>
+    ensures { rank result ≡ kind_of letter }
 {
     match letter {
-        b'C' => 1,
-        b'I' => 2,
-        b'P' => 3,
-        _ => 0,
+        b'C' => Some(Kind::Class),
+        b'I' => Some(Kind::Instrument),
+        b'P' => Some(Kind::Position),
+        _ => None,
     }
 }
 
-pub fn kind_at(book: &[u8], r: usize) -> u8
-    requires { 32 * r + 32 ≤ length book.now }
-    ensures { result ≡ kind_at book.now r }
+fn all_zero(bytes: &[u8]) -> bool
+    ensures { result ≡ list_all (λ b. b == 0) bytes.now }
 {
-    kind(byte(book, r, 0))
+    bytes.iter().all(|b| *b == 0)
 }
 
-// Whether the n bytes of record r from o on are zero.
-fn zeros(book: &[u8], r: usize, o: usize, n: usize) -> bool
-    requires { 32 * r + o + n ≤ length book.now }
-    ensures { result ≡ zeros_of book.now r o n }
-{
-    let mut at = o;
-    let mut left = n;
-    while 0 < left {
-        if byte(book, r, at) != 0 {
-            return false;
+impl Record<'_> {
+    // Byte o.
+    fn byte(&self, o: usize) -> u8
+        requires { o < 32 }
+        ensures { result ≡ byte_of self.now.book.now self.now.number o }
+    {
+        self.book[32 * self.number + o]
+    }
+
+    // The fields of two and four bytes are little endian. Each is one call of its type's own method; one for both would need a trait.
+    #[tactic(auto, unfolding(paper::specs::Records::le16))]
+    fn le16(&self, o: usize) -> u16
+        requires { o + 1 < 32 }
+        ensures { result ≡ le16_of self.now.book.now self.now.number o }
+    {
+        u16::from_le_bytes([self.byte(o), self.byte(o + 1)])
+    }
+
+    #[tactic(auto, unfolding(paper::specs::Records::le32, paper::specs::Records::le16))]
+    fn le32(&self, o: usize) -> u32
+        requires { o + 3 < 32 }
+        ensures { result ≡ le32_of self.now.book.now self.now.number o }
+    {
+        u32::from_le_bytes([
+            self.byte(o),
+            self.byte(o + 1),
+            self.byte(o + 2),
+            self.byte(o + 3),
+        ])
+    }
+
+    // Yields, prices, Par and Adj are signed from here on.
+    fn signed(&self, o: usize) -> i64
+        requires { o + 3 < 32 }
+        ensures { result ≡ pos (le32_of self.now.book.now self.now.number o) }
+    {
+        i64::from(self.le32(o))
+    }
+
+    pub fn kind(&self) -> Option<Kind>
+        ensures { rank result ≡ kind_at self.now.book.now self.now.number }
+    {
+        kind_named(self.byte(0))
+    }
+
+    // Whether the n bytes from o on are zero.
+    fn zeros(&self, o: usize, n: usize) -> bool
+        requires { o + n ≤ 32 }
+        ensures { result ≡ zeros_of self.now.book.now self.now.number o n }
+    {
+        let from = 32 * self.number + o;
+        all_zero(&self.book[from..from + n])
+    }
+
+    // The bytes that a record's kind does not name are reserved.
+    #[tactic(auto, unfolding(paper::specs::Refusals::reserved_zero))]
+    pub fn reserved_zero(&self) -> bool
+        ensures { result ≡ reserved_zero self.now.book.now self.now.number }
+    {
+        match self.kind() {
+            Some(Kind::Class) => self.zeros(1, 1) & self.zeros(8, 24),
+            Some(Kind::Instrument) => self.zeros(6, 2) & self.zeros(24, 8),
+            Some(Kind::Position) => self.zeros(13, 19),
+            None => true,
         }
-        at += 1;
-        left -= 1;
     }
-    true
-}
 
-// The bytes that a record's kind does not name are reserved.
-#[tactic(auto, unfolding(paper::specs::Refusals::reserved_zero))]
-pub fn reserved_zero(book: &[u8], r: usize) -> bool
-    requires { 32 * r + 32 ≤ length book.now }
-    ensures { result ≡ reserved_zero book.now r }
-{
-    let kind = kind_at(book, r);
-    match kind {
-        1 => zeros(book, r, 1, 1) & zeros(book, r, 8, 24),
-        2 => zeros(book, r, 6, 2) & zeros(book, r, 24, 8),
-        3 => zeros(book, r, 13, 19),
-        _ => true,
+    #[tactic(auto, unfolding(paper::specs::Records::class_at))]
+    pub fn class(&self) -> Class
+        ensures { result ≡ class_at self.now.book.now self.now.number }
+    {
+        Class {
+            parent: self.le16(2),
+            points: self.le16(4),
+            share: self.le16(6),
+        }
     }
-}
 
-#[tactic(auto, unfolding(paper::specs::Records::class_at))]
-pub fn class_at(book: &[u8], r: usize) -> Class
-    requires { 32 * r + 32 ≤ length book.now }
-    ensures { result ≡ class_at book.now r }
-{
-    Class {
-        parent: le16(book, r, 2),
-        points: le16(book, r, 4),
-        share: le16(book, r, 6),
+    #[tactic(auto, unfolding(paper::specs::Records::instrument_at))]
+    pub fn instrument(&self) -> Instrument
+        ensures { result ≡ instrument_at self.now.book.now self.now.number }
+    {
+        Instrument {
+            product: self.byte(1),
+            class: self.le16(2),
+            days: self.le16(4),
+            today: self.signed(8),
+            before: self.signed(12),
+            par: self.signed(16),
+            adj: self.signed(20),
+        }
     }
-}
 
-#[tactic(auto, unfolding(paper::specs::Records::instrument_at))]
-pub fn instrument_at(book: &[u8], r: usize) -> Instrument
-    requires { 32 * r + 32 ≤ length book.now }
-    ensures { result ≡ instrument_at book.now r }
-{
-    Instrument {
-        product: byte(book, r, 1),
-        class: le16(book, r, 2),
-        days: le16(book, r, 4),
-        today: signed(book, r, 8),
-        before: signed(book, r, 12),
-        par: signed(book, r, 16),
-        adj: signed(book, r, 20),
-    }
-}
-
-#[tactic(auto, unfolding(paper::specs::Records::position_at))]
-pub fn position_at(book: &[u8], r: usize) -> Position
-    requires { 32 * r + 32 ≤ length book.now }
-    ensures { result ≡ position_at book.now r }
-{
-    Position {
-        side: byte(book, r, 1),
-        instrument: le16(book, r, 2),
-        quantity: le32(book, r, 4),
-        price: signed(book, r, 8),
-        traded: byte(book, r, 12),
+    #[tactic(auto, unfolding(paper::specs::Records::position_at))]
+    pub fn position(&self) -> Position
+        ensures { result ≡ position_at self.now.book.now self.now.number }
+    {
+        Position {
+            side: self.byte(1),
+            instrument: self.le16(2),
+            quantity: self.le32(4),
+            price: self.signed(8),
+            traded: self.byte(12),
+        }
     }
 }

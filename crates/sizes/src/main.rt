@@ -5,7 +5,7 @@
 
 ghost use Rattle.std.specs.Prelude.{◌+◌, ◌<◌, ◌≤◌};
 
-use paper::{Answer, Totals};
+use paper::{Numbers, Refusal, Totals};
 
 fn main(rt: HostRuntime) {
     lengths(&rt);
@@ -16,28 +16,57 @@ fn main(rt: HostRuntime) {
     full_runs(&rt);
 }
 
-// Bytes of a root of 3 points (kind 0), a future in class 0 (1), or a contract of instrument 0 bought and carried (2).
-fn fill(book: &mut [u8; 11040], from: usize, to: usize, kind: usize)
-    requires { (to ≤ 11040) × (kind < 3) }
+// A root of 3 points, a future in class 0, and a contract of instrument 0 bought and carried.
+const CLASS: [u8; 32] = *b"C\0\xff\xff\x03\0\0\0\0\0\0\0\0\0\0\0\0\0\0\0\0\0\0\0\0\0\0\0\0\0\0\0";
+
+const INSTRUMENT: [u8; 32] =
+    *b"I\x02\0\0\0\0\0\0\x08\0\0\0\0\0\0\0\x80\x1a\x06\0\x20\x4e\0\0\0\0\0\0\0\0\0\0";
+
+const POSITION: [u8; 32] = *b"P\x01\0\0\x01\0\0\0\0\0\0\0\0\0\0\0\0\0\0\0\0\0\0\0\0\0\0\0\0\0\0\0";
+
+// How many records of each kind.
+#[derive(Clone, Copy)]
+struct Kinds {
+    classes: usize,
+    instruments: usize,
+    positions: usize,
+    ghost within: { classes + instruments + positions ≤ 345 },
+}
+
+fn of(classes: usize, instruments: usize, positions: usize) -> Kinds
+    requires { classes + instruments + positions ≤ 345 }
 {
-    let kinds = *b"C\0\xff\xff\x03\0\0\0\0\0\0\0\0\0\0\0\0\0\0\0\0\0\0\0\0\0\0\0\0\0\0\0\
-                   I\x02\0\0\0\0\0\0\x08\0\0\0\0\0\0\0\x80\x1a\x06\0\x20\x4e\0\0\0\0\0\0\0\0\0\0\
-                   P\x01\0\0\x01\0\0\0\0\0\0\0\0\0\0\0\0\0\0\0\0\0\0\0\0\0\0\0\0\0\0\0";
-    for at in from..to {
-        book[at] = kinds[32 * kind + at % 32];
+    Kinds {
+        classes,
+        instruments,
+        positions,
+    }
+}
+
+impl Kinds {
+    // The book's length.
+    fn bytes(self) -> usize
+        ensures { result ≤ 11040 }
+    {
+        32 * (self.classes + self.instruments + self.positions)
+    }
+}
+
+// The record, over and over.
+fn fill(part: &mut [u8], record: &[u8; 32]) {
+    for place in part.chunks_exact_mut(32) {
+        place.copy_from_slice(record);
     }
 }
 
 // A book of so many records of each kind; what is behind them is zero.
-fn filled(classes: usize, instruments: usize, positions: usize) -> [u8; 11040]
-    requires { classes + instruments + positions ≤ 345 }
-{
+fn filled(n: Kinds) -> [u8; 11040] {
     let mut book = [0u8; 11040];
-    let listed = 32 * classes;
-    let held = listed + 32 * instruments;
-    fill(&mut book, 0, listed, 0);
-    fill(&mut book, listed, held, 1);
-    fill(&mut book, held, held + 32 * positions, 2);
+    let (classes, rest) = book.split_at_mut(32 * n.classes);
+    let (instruments, rest) = rest.split_at_mut(32 * n.instruments);
+    fill(classes, &CLASS);
+    fill(instruments, &INSTRUMENT);
+    fill(&mut rest[..32 * n.positions], &POSITION);
     book
 }
 
@@ -50,42 +79,38 @@ fn number(out: &impl Print, n: usize) {
     let _ = out.print(n);
 }
 
-fn name(out: &impl Print, classes: usize, instruments: usize, positions: usize) {
+fn name(out: &impl Print, n: Kinds) {
     word(out, b"classes");
-    number(out, classes);
+    number(out, n.classes);
     word(out, b" instruments");
-    number(out, instruments);
+    number(out, n.instruments);
     word(out, b" positions");
-    number(out, positions);
+    number(out, n.positions);
 }
 
-fn refused(out: &impl Print, code: u64, place: usize) {
+fn refused(out: &impl Print, refusal: Refusal) {
     word(out, b": refused");
-    number(out, code as usize);
-    number(out, place);
+    number(out, refusal.fault.code() as usize);
+    number(out, refusal.place);
 }
 
-fn ended(out: &impl Print, answer: Answer) {
-    let code = answer.code();
-    if code == 0 {
-        word(out, b": accepted");
-    } else {
-        refused(out, code, answer.place());
+fn ended(out: &impl Print, answer: Result<Totals, Refusal>) {
+    match answer {
+        Ok(_) => word(out, b": accepted"),
+        Err(refusal) => refused(out, refusal),
     }
 }
 
 // A run with room for any book of 3 points.
-fn answer(book: &[u8]) -> Answer {
+fn answer(book: &[u8]) -> Result<Totals, Refusal> {
     let mut rows = [0i64; 72];
     let mut choice = [0u16; 88];
     margin::run(book, &mut rows, &mut choice)
 }
 
-// The end of a line: what a run of the first n bytes answers.
-fn answer_on(out: &impl Print, book: [u8; 11040], n: usize)
-    requires { n ≤ 11040 }
-{
-    ended(out, answer(&book[0..n]));
+// The end of a line: what a run of the book answers.
+fn answer_on(out: &impl Print, book: &[u8]) {
+    ended(out, answer(book));
     word(out, b"\n");
 }
 
@@ -93,10 +118,9 @@ fn answer_on(out: &impl Print, book: [u8; 11040], n: usize)
 fn length(out: &impl Print, n: usize)
     requires { n ≤ 11040 }
 {
-    let book = filled(2, 3, 4);
     word(out, b"length");
     number(out, n);
-    answer_on(out, book, n);
+    answer_on(out, &filled(of(2, 3, 4))[..n]);
 }
 
 fn lengths(out: &impl Print) {
@@ -109,23 +133,20 @@ fn lengths(out: &impl Print) {
     length(out, 288);
 }
 
-fn many(out: &impl Print, classes: usize, instruments: usize, positions: usize)
-    requires { classes + instruments + positions ≤ 345 }
-{
-    let book = filled(classes, instruments, positions);
-    name(out, classes, instruments, positions);
-    answer_on(out, book, 32 * (classes + instruments + positions));
+fn many(out: &impl Print, n: Kinds) {
+    name(out, n);
+    answer_on(out, &filled(n)[..n.bytes()]);
 }
 
 fn numbers(out: &impl Print) {
-    many(out, 24, 0, 0);
-    many(out, 25, 0, 0);
-    many(out, 1, 64, 0);
-    many(out, 1, 65, 0);
-    many(out, 1, 1, 256);
-    many(out, 1, 1, 257);
-    many(out, 24, 64, 256);
-    many(out, 24, 64, 257);
+    many(out, of(24, 0, 0));
+    many(out, of(25, 0, 0));
+    many(out, of(1, 64, 0));
+    many(out, of(1, 65, 0));
+    many(out, of(1, 1, 256));
+    many(out, of(1, 1, 257));
+    many(out, of(24, 64, 256));
+    many(out, of(24, 64, 257));
 }
 
 // A book that ends with that record, in which one byte is written over.
@@ -137,19 +158,26 @@ fn faults(out: &impl Print, what: &[u8], book: [u8; 11040], last: usize, offset:
     word(out, what);
     word(out, b" in record");
     number(out, last);
-    answer_on(out, damaged, 32 * last + 32);
+    answer_on(out, &damaged[..32 * last + 32]);
 }
 
 // Two faults in one record, one of them its number: the earlier code is given.
 fn two_faults(out: &impl Print) {
-    faults(out, b"limit and reserved", filled(25, 0, 0), 24, 8, 1);
-    faults(out, b"limit and reference", filled(25, 0, 0), 24, 3, 0);
-    faults(out, b"limit and range", filled(24, 65, 0), 88, 1, 4);
-    faults(out, b"limit and reference", filled(24, 64, 257), 344, 2, 64);
-    faults(out, b"order and limit", filled(24, 2, 0), 25, 0, 67);
+    faults(out, b"limit and reserved", filled(of(25, 0, 0)), 24, 8, 1);
+    faults(out, b"limit and reference", filled(of(25, 0, 0)), 24, 3, 0);
+    faults(out, b"limit and range", filled(of(24, 65, 0)), 88, 1, 4);
+    faults(
+        out,
+        b"limit and reference",
+        filled(of(24, 64, 257)),
+        344,
+        2,
+        64,
+    );
+    faults(out, b"order and limit", filled(of(24, 2, 0)), 25, 0, 67);
 }
 
-fn answer_counted(kept: &[u8], size: usize) -> Answer {
+fn answer_counted(kept: &[u8], size: usize) -> Result<Totals, Refusal> {
     let mut rows = [0i64; 72];
     let mut choice = [0u16; 88];
     margin::run_counted(kept, size, &mut rows, &mut choice)
@@ -159,12 +187,12 @@ fn answer_counted(kept: &[u8], size: usize) -> Answer {
 fn counted(out: &impl Print, kept: usize, size: usize)
     requires { kept ≤ 11040 }
 {
-    let book = filled(2, 3, 4);
+    let book = filled(of(2, 3, 4));
     word(out, b"kept");
     number(out, kept);
     word(out, b" of");
     number(out, size);
-    ended(out, answer_counted(&book[0..kept], size));
+    ended(out, answer_counted(&book[..kept], size));
     word(out, b"\n");
 }
 
@@ -177,31 +205,13 @@ fn counts(out: &impl Print) {
     counted(out, 288, 289);
 }
 
-fn one(changed: bool) -> usize
-    ensures { result ≤ 1 }
-{
-    if changed { 1 } else { 0 }
-}
-
-// How many entries of the rows no longer hold the mark, 7: no amount of these books, and no point.
-fn rows_written(rows: &[i64]) -> usize {
-    let mut n = 0;
-    for k in 0..rows.len() {
-        n += one(rows[k] != 7);
-    }
-    n
-}
-
-fn choice_written(choice: &[u16]) -> usize {
-    let mut n = 0;
-    for k in 0..choice.len() {
-        n += one(choice[k] != 7);
-    }
-    n
+// How many entries no longer hold the mark, 7: no amount of these books, and no point.
+fn changed<T: PartialEq>(entries: &[T], mark: &T) -> usize {
+    entries.iter().filter(|z| *z != mark).count()
 }
 
 fn written(out: &impl Print, rows: usize, choice: usize) {
-    if (rows == 0) & (choice == 0) {
+    if rows == 0 && choice == 0 {
         word(out, b", untouched\n");
         return;
     }
@@ -219,7 +229,7 @@ fn totals(out: &impl Print, t: Totals) {
     }
 }
 
-fn told(out: &impl Print, answer: Answer) {
+fn told(out: &impl Print, answer: Result<Totals, Refusal>) {
     ended(out, answer);
     totals(out, answer.totals());
 }
@@ -227,7 +237,7 @@ fn told(out: &impl Print, answer: Answer) {
 // The end of a line: what a run answers and writes.
 fn run_on(out: &impl Print, book: &[u8], rows: &mut [i64], choice: &mut [u16]) {
     told(out, margin::run(book, rows, choice));
-    written(out, rows_written(rows), choice_written(choice));
+    written(out, changed(rows, &7), changed(choice, &7));
 }
 
 fn buffers(out: &impl Print, rows: usize, choice: usize) {
@@ -247,44 +257,35 @@ fn lend(out: &impl Print, book: &[u8], rows: usize, choice: usize)
     run_on(
         out,
         book,
-        &mut marked_rows[0..rows],
-        &mut marked_choice[0..choice],
+        &mut marked_rows[..rows],
+        &mut marked_choice[..choice],
     );
 }
 
-fn run(
-    out: &impl Print,
-    classes: usize,
-    instruments: usize,
-    positions: usize,
-    rows: usize,
-    choice: usize,
-)
-    requires { (classes + instruments + positions ≤ 345) × (rows ≤ 73) × (choice ≤ 89) }
+fn run(out: &impl Print, n: Kinds, rows: usize, choice: usize)
+    requires { (rows ≤ 73) × (choice ≤ 89) }
 {
-    let book = filled(classes, instruments, positions);
-    let n = 32 * (classes + instruments + positions);
-    name(out, classes, instruments, positions);
-    lend(out, &book[0..n], rows, choice);
+    name(out, n);
+    lend(out, &filled(n)[..n.bytes()], rows, choice);
 }
 
 // Rows need 6 entries and the choice 5; an empty book needs none.
 fn runs(out: &impl Print) {
-    run(out, 2, 3, 4, 5, 5);
-    run(out, 2, 3, 4, 6, 5);
-    run(out, 2, 3, 4, 6, 4);
-    run(out, 2, 3, 4, 5, 4);
-    run(out, 2, 3, 4, 0, 0);
-    run(out, 2, 3, 4, 7, 6);
-    run(out, 0, 0, 0, 0, 0);
-    run(out, 0, 0, 0, 1, 1);
+    run(out, of(2, 3, 4), 5, 5);
+    run(out, of(2, 3, 4), 6, 5);
+    run(out, of(2, 3, 4), 6, 4);
+    run(out, of(2, 3, 4), 5, 4);
+    run(out, of(2, 3, 4), 0, 0);
+    run(out, of(2, 3, 4), 7, 6);
+    run(out, of(0, 0, 0), 0, 0);
+    run(out, of(0, 0, 0), 1, 1);
 }
 
 // Rows need 72 entries and the choice 88; a record's fault comes before the buffers'.
 fn full_runs(out: &impl Print) {
-    run(out, 24, 64, 256, 71, 88);
-    run(out, 24, 64, 256, 72, 87);
-    run(out, 24, 64, 256, 71, 87);
-    run(out, 24, 64, 256, 72, 88);
-    run(out, 24, 64, 257, 0, 0);
+    run(out, of(24, 64, 256), 71, 88);
+    run(out, of(24, 64, 256), 72, 87);
+    run(out, of(24, 64, 256), 71, 87);
+    run(out, of(24, 64, 256), 72, 88);
+    run(out, of(24, 64, 257), 0, 0);
 }

@@ -1,15 +1,13 @@
--- Laws of decimal digits, and of texts at the right end of their bytes. Assumes nothing.
-use mathlib.Core.Path.{◌≡◌, refl, sym, ap, ◌∙◌}
+-- Laws of decimal digits. Assumes nothing.
+use mathlib.Core.Path.{◌≡◌, sym, ap, ◌∙◌}
 use mathlib.Core.List.{List, [], ◌∷◌, ◌++◌, append_assoc}
-use Prim.Native.Nat.{ℕ, zero, suc, ◌-◌, ◌/◌, ◌^◌, ◌≤◌, ◌<◌}
+use Prim.Native.Nat.{ℕ, zero, suc, ◌+◌, ◌/◌, ◌^◌, ◌≤◌, ◌<◌}
 use native.Mathlib.Omega.{arith}
 use native.Mathlib.Decide.{dec_lt}
 use borrow.Author.Tests.{lt-ltb, le-ltb}
-use lib.ListN.{length, set, replicate, length-append, length-replicate}
-use lib.Seq.{drop_at}
+use lib.ListN.{length, length-append}
 use Rattle.paper.specs.Listing.{digit, digits, decimal}
-use Rattle.text.specs.declared.Text.{Text}
-use Rattle.text.specs.Text.{room, right, shown, in_front}
+use Rattle.text.specs.Text.{room}
 
 -- of a number below 10 there is one digit, and no room for more changes that
 one_digit : (f n : ℕ) → n < 10 → digits (suc f) n ≡ digit n ∷ []
@@ -46,35 +44,6 @@ decimal_more (suc n) h =
 pub decimal_front : (n : ℕ) (s : List ℕ) → 10 ≤ n → decimal n ++ s ≡ decimal (n / 10) ++ (digit n ∷ s)
 decimal_front n s h = rw (decimal_more n h, append_assoc)
 
--- the zeros before a text, one fewer
-zeros_less : (k b : ℕ) (s : List ℕ) → set (replicate (suc k) 0 ++ s) k b ≡ replicate k 0 ++ (b ∷ s)
-zeros_less zero b s = refl
-zeros_less (suc k) b s = ap (λ (t : List ℕ). 0 ∷ t) (zeros_less k b s)
-
-pub right_shown : (s : List ℕ) → shown (right s) ≡ s
-right_shown s = drop_at (replicate (room - length s) 0) s (room - length s) (length-replicate (room - length s) 0)
-
-pub right_front : (b : ℕ) (s : List ℕ) → length s < room → in_front (right s) b ≡ right (b ∷ s)
-right_front b s h =
-    let k : ℕ = room - length (b ∷ s) in
-    let e : room - length s ≡ suc k = omega arith in
-    let f : room - length s - 1 ≡ k = omega arith in
-    let l : set (replicate (room - length s) 0 ++ s) (room - length s - 1) b ≡ replicate k 0 ++ (b ∷ s) = rw (f, e) (zeros_less k b s) in
-    λ i. record { bytes = l i; from = f i }
-
--- a text that is in order, with one byte more in front
-module _ (t : Text) (b : ℕ) (ok : t ≡ right (shown t)) (free : 0 < t.from) where
-  pub front_is : in_front t b ≡ right (b ∷ shown t)
-  front_is =
-      let h : t.from ≡ room - length (shown t) = ap (λ (u : Text). u.from) ok in
-      ap (λ (u : Text). in_front u b) ok ∙ right_front b (shown t) (omega arith)
-
--- what is left of a number of at most k digits after its last digit
-pub digits_left : (k n : ℕ) → n < 10 ^ k → 10 ≤ n → (2 ≤ k) × (n / 10 < 10 ^ (k - 1))
-digits_left zero n h l = absurd (omega arith)
-digits_left (suc zero) n h l = absurd (omega arith)
-digits_left (suc (suc k)) n h l = let e : suc (suc k) - 1 ≡ suc k = omega arith in rw e (omega arith, omega arith)
-
 -- a number below 10 ^ k has at most k digits
 pub decimal_length : (k n : ℕ) → n < 10 ^ suc k → length (decimal n) ≤ suc k
 decimal_length zero n h = rw (decimal_one n (omega arith)) (omega arith)
@@ -82,3 +51,17 @@ decimal_length (suc k) n h = elim (dec_lt n 10) [
   | yes l ↦ rw (decimal_one n l) (omega arith)
   | no l ↦ rw (decimal_more n (omega arith), length-append) (omega (arith, decimal_length k (n / 10) (omega arith)))
 ]
+
+pub decimal_some : (n : ℕ) → 1 ≤ length (decimal n)
+decimal_some n = elim (dec_lt n 10) [
+  | yes k ↦ rw (decimal_one n k) (omega arith)
+  | no k ↦ rw (decimal_more n (omega arith), length-append) (omega arith)
+]
+
+-- while there are digits left of a number that a u64 holds, there is room for one more
+pub room_left : (m n : ℕ) (t s : List ℕ) → decimal m ++ t ≡ decimal n ++ s → n < 2 ^ 64 → 21 + length s ≤ room → length t < room
+room_left m n t s e h k =
+    omega (arith, decimal_some m, decimal_length 19 n (omega arith), length-append (decimal m) t, length-append (decimal n) s, ap length e)
+
+-- what the proof of the function that writes a number cites
+pub ruleset decimal_rules = (decimal_one, decimal_front, room_left)

@@ -1,67 +1,91 @@
-// A short text, put together from its end: at the right end of its bytes, with zeros before it.
+// A short text, put together from its end: at the right end of its bytes.
 #![tactic(auto)]
 
-ghost use Rattle.std.specs.Prelude.{◌≡◌, List, [], ◌++◌, ℕ, ◌<◌, ◌≤◌, length};
+ghost use Rattle.std.specs.Prelude.{◌≡◌, List, [], ◌∷◌, ◌++◌, ℕ, ◌+◌, ◌<◌, ◌≤◌, length};
 ghost use Rattle.paper.specs.Listing.{digit as digit_of, decimal};
-ghost use Rattle.text.specs.Text.{room, right, shown, in_front};
+ghost use Rattle.text.specs.Text.{room};
 
+use std::marker::Model;
+
+const ROOM: usize = 96;
+
+// Contracts see a text as the list of the bytes from `from` on. Memory is fixed here: nothing of this project takes any from a heap.
 #[derive(Drop)]
 pub struct Text {
-    pub bytes: [u8; 96],
-    pub from: usize,
+    bytes: [u8; ROOM],
+    from: usize,
 }
 
-pub fn empty() -> Text
-    ensures { result ≡ right [] }
-{
-    Text {
-        bytes: [0u8; 96],
-        from: 96,
+impl Model for Text {
+    ghost use Rattle.std.specs.Prelude.{List, ℕ, ◌≤◌, drop};
+    ghost use Rattle.text.specs.Text.{room};
+
+    ghost Value = { List ℕ };
+
+    ghost view = { λ t. drop t.from t.bytes };
+
+    ghost invariant = { λ t. t.from ≤ room };
+}
+
+impl Text {
+    pub fn empty() -> Text
+        ensures { result ≡ [] }
+    {
+        Text {
+            bytes: [0; ROOM],
+            from: ROOM,
+        }
     }
-}
 
-// The text with one byte more in front.
-pub fn with_byte(t: Text, b: u8) -> Text
-    requires { (0 < t.from) × (t.from ≤ room) }
-    ensures { result ≡ in_front t b }
-{
-    let at = t.from - 1;
-    let mut bytes = t.bytes;
-    bytes[at] = b;
-    Text { bytes, from: at }
-}
-
-// The text with these bytes in front, the last one first.
-pub fn with_bytes(t: Text, s: &[u8]) -> Text
-    requires { (t ≡ right (shown t)) × (length s.now ≤ t.from) × (t.from ≤ room) }
-    ensures { result ≡ right (s.now ++ shown t) }
-{
-    let mut text = t;
-    let mut left = s.len();
-    while 0 < left {
-        left -= 1;
-        text = with_byte(text, s[left]);
+    // The text with one byte more in front.
+    pub fn with_byte(mut self, b: u8) -> Text
+        requires { length self < room }
+        ensures { result ≡ b ∷ self }
+    {
+        self.from -= 1;
+        self.bytes[self.from] = b;
+        self
     }
-    text
+
+    // The text with these bytes in front.
+    pub fn with_bytes(mut self, s: &[u8]) -> Text
+        requires { length s.now + length self ≤ room }
+        ensures { result ≡ s.now ++ self }
+    {
+        let end = self.from;
+        let from = end - s.len();
+        self.bytes[from..end].copy_from_slice(s);
+        self.from = from;
+        self
+    }
+
+    // The text with a number in decimal in front, its last digit first.
+    #[tactic(auto, using(crate::proofs::Decimal::decimal_rules))]
+    pub fn with_decimal(self, n: u64) -> Text
+        requires { 21 + length self ≤ room }
+        ensures { result ≡ decimal n ++ self }
+    {
+        let mut text = self;
+        let mut left = n;
+        // it divides down and counts no index
+        while 10 <= left {
+            text = text.with_byte(digit(left));
+            left /= 10;
+        }
+        text.with_byte(digit(left))
+    }
+
+    // The bytes of the text.
+    pub fn as_bytes(&self) -> &[u8]
+        ensures { result.now ≡ self.now }
+    {
+        &self.bytes[self.from..]
+    }
 }
 
 // The digit that a number ends in.
 pub fn digit(n: u64) -> u8
     ensures { result ≡ digit_of n }
 {
-    48 + (n % 10) as u8
-}
-
-// The text with a number in decimal in front, its last digit first.
-pub fn with_decimal(t: Text, n: u64) -> Text
-    requires { (t ≡ right (shown t)) × (21 ≤ t.from) × (t.from ≤ room) }
-    ensures { result ≡ right (decimal n ++ shown t) }
-{
-    let mut text = t;
-    let mut left = n;
-    while 10 <= left {
-        text = with_byte(text, digit(left));
-        left /= 10;
-    }
-    with_byte(text, digit(left))
+    b'0' + (n % 10) as u8
 }

@@ -1,16 +1,16 @@
 -- A sound book's tree is a tree, and all its figures fit. Assumes nothing.
+use Rattle.std.specs.Prelude.{Ok}
 use mathlib.Core.Path.{◌≡◌}
-use mathlib.Core.Logic.{⊎_elim}
+use mathlib.Core.Logic.{◌≢◌, ⊎_elim}
 use mathlib.Core.List.{List}
-use Prim.Native.Nat.{ℕ, ◌*◌}
+use Prim.Native.Nat.{ℕ, ◌*◌, ◌<◌}
 use native.Mathlib.Nat.{mul_comm}
 use native.Mathlib.Omega.{arith}
 use lib.IntN.{pos, nat_abs}
 use lib.Signed.{◌≤ℤ◌}
 use Rattle.paper.specs.declared.Shape.{Shape}
-use Rattle.paper.specs.declared.Verdict.TheVariants.{Sound}
 use Rattle.paper.specs.Sums.{sum}
-use Rattle.paper.specs.Records.{instrument_of}
+use Rattle.paper.specs.Records.{root, class_of, instrument_of}
 use Rattle.paper.specs.Refusals.{verdict_of}
 use Rattle.paper.specs.Products.{positions_of, held_of, gross_of}
 use Rattle.paper.specs.Answers.{walk_of}
@@ -23,11 +23,22 @@ use Rattle.vector.proofs.Book.{points_of}
 use Rattle.tree.proofs.Rows.{Valid}
 use Rattle.tree.proofs.Bounds.{Weighed, Bounded, bounded}
 
+-- a child's parent has the smaller number, and an instrument's class is one of the book's
+pub parent_before : (b : List ℕ) (s : Shape) (k : ℕ) → verdict_of b ≡ Ok s → k < s.classes → (class_of b k).parent ≢ root → (class_of b k).parent < k
+parent_before b s k sound h n = ⊎_elim (λ e. absurd (n e)) (λ l. l) ((sound_book b s sound).class k h).parent
+
+pub home_within : (b : List ℕ) (s : Shape) (i : ℕ) → verdict_of b ≡ Ok s → i < s.instruments → (instrument_of b s i).class < s.classes
+home_within b s i sound h = ((sound_book b s sound).instrument i h).class
+
+-- all classes have the points of the book
+pub class_points : (b : List ℕ) (s : Shape) (k : ℕ) → verdict_of b ≡ Ok s → k < s.classes → (class_of b k).points ≡ s.points
+class_points b s k sound h = ((sound_book b s sound).class k h).points
+
 -- the contracts that the book holds of instrument i, bought and sold together
 unfoldable pub weight_in : List ℕ → Shape → ℕ → ℕ
 weight_in b s i = nat_abs (gross_of (positions_of b s) i)
 
-module _ (b : List ℕ) (s : Shape) (sound : verdict_of b ≡ Sound s) where
+module _ (b : List ℕ) (s : Shape) (sound : verdict_of b ≡ Ok s) where
   book : SoundBook b s
   book = sound_book b s sound
 
@@ -35,8 +46,8 @@ module _ (b : List ℕ) (s : Shape) (sound : verdict_of b ≡ Sound s) where
   valid = record {
     few = omega (arith, book.classes);
     some = λ h. omega (arith, (book.points h).least);
-    before = λ k h n. ⊎_elim (λ e. absurd (n e)) (λ l. l) (book.class k h).parent;
-    housed = λ i h. (book.instrument i h).class;
+    before = λ k h n. parent_before b s k sound h n;
+    housed = λ i h. home_within b s i sound h;
   }
 
   contracts : sum s.instruments (λ i. pos (weight_in b s i)) ≤ℤ pos 256000000

@@ -19,7 +19,7 @@ use Rattle.paper.specs.Windows.{lowest_near}
 use Rattle.paper.specs.Trees.{Tree, is_root, result_from, row_of, cross_of, Allowed, total_of}
 use Rattle.amount.proofs.Ints.{ints, plus, neg, sign, abs}
 use Rattle.amount.proofs.Sums.{sum_mono, sum_zero, sum_one}
-use Rattle.amount.proofs.Lowest.{Lowest, lowest_is}
+use Rattle.amount.proofs.Worst.{Lowest, lowest_is}
 use Rattle.window.proofs.Near.{LowestNear, near_is}
 use Rattle.tree.specs.Buffers.{result_so_far, from_root}
 use Rattle.tree.proofs.Rows.{Valid, row_is}

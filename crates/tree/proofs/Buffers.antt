@@ -6,7 +6,7 @@ use Prim.Native.Nat.{ℕ, zero, suc, ◌+◌, ◌-◌, ◌*◌, ◌≤◌, ◌<�
 use native.Mathlib.Omega.{arith}
 use native.Mathlib.Decide.{dec_lt}
 use lib.IntN.{ℤ, pos, ◌+ℤ◌}
-use lib.ListN.{length, take, drop, get_or, length-append, length-drop, take-append-drop, get_or-append}
+use lib.ListN.{length, replicate, length-replicate, get_or-replicate, take, drop, get_or, length-append, length-drop, take-append-drop, get_or-append}
 use lib.Seq.{length-take-le, take_at, drop_at, get_or-append-add, drop-append-add, get_or-take, get_or-drop, drop-drop, ext_get_or}
 use Rattle.paper.specs.Sums.{listed}
 use Rattle.paper.specs.Windows.{lowest_near}
@@ -20,11 +20,12 @@ unfolding listed
 listed_cong zero e = refl
 listed_cong (suc n) e = ap₂ (λ xs y. xs ++ (y ∷ [])) (listed_cong n (λ k h. e k (omega arith))) (e n (omega arith))
 
--- a list is that of its entries
-pub listed_entries : (v : List ℤ) → listed (length v) (entry_of v) ≡ v
-listed_entries v =
-    let l = listed_length (length v) (entry_of v) in
-    ext_get_or (pos 0) _ _ l (λ x h. listed_at (length v) x (entry_of v) (pos 0) (omega arith))
+-- one value in each place
+pub listed_same : {A : Type 0} (n : ℕ) (d : A) → replicate n d ≡ listed n (λ x. d)
+listed_same n d =
+    ext_get_or d _ _ (length-replicate n d ∙ sym (listed_length n (λ x. d))) (λ x h.
+    let l : x < n = rw (length-replicate n d) at h in
+    get_or-replicate n x d d l ∙ sym (listed_at n x (λ x. d) d l))
 
 -- the first entries of a working array that holds a function's values there
 pub first_listed : (p : ℕ) (f : ℕ → ℤ) (work rest : List ℤ) → work ≡ listed p f ++ rest → take p work ≡ listed p f

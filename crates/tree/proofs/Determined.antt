@@ -10,23 +10,23 @@ use Rattle.tree.proofs.row.slide_row.Reads as slide-row-reads
 use Rattle.tree.proofs.row.add_row.Reads as add-row-reads
 use Rattle.tree.proofs.row.lowest_in.Reads as lowest-in-reads
 use Rattle.tree.proofs.row.chosen_in.Reads as chosen-in-reads
+use Rattle.tree.proofs.terms.parent_of.Reads as parent-of-reads
 use Rattle.tree.proofs.terms.reach_of.Reads as reach-of-reads
-use Rattle.tree.proofs.terms.fill_vector.Reads as fill-vector-reads
 use Rattle.tree.proofs.choice.choose_classes.Reads as choose-classes-reads
 use Rattle.tree.proofs.choice.choose_items.Reads as choose-items-reads
 
 -- the rows at exit
-fill_row : OneOutcome (λ κs x e. e.1.1.0.now) fill-row-reads.Post
+fill_row : OneOutcome (λ κs x e. e.1.0.now) fill-row-reads.Post
 fill_row κs a x y e f = coincide
 
-fill_rows : OneOutcome (λ κs x e. e.1.1.0.now) fill-rows-reads.Post
+fill_rows : OneOutcome (λ κs x e. e.1.0.now) fill-rows-reads.Post
 fill_rows κs a x y e f = coincide
 
 cross : OneResult cross-reads.Post
 cross κs a x y e f = coincide
 
 -- the choice at exit
-choose : OneOutcome (λ κs x e. e.1.1.1.0.now) choose-reads.Post
+choose : OneOutcome (λ κs x e. e.1.1.0.now) choose-reads.Post
 choose κs a x y e f = coincide
 
 -- what the crate's own modules offer each other
@@ -45,14 +45,14 @@ lowest_in κs a x y e f = coincide
 chosen_in : OneResult chosen-in-reads.Post
 chosen_in κs a x y e f = coincide
 
+parent_of : OneResult parent-of-reads.Post
+parent_of κs a x y e f = coincide
+
 reach_of_lem : OneResult reach-of-reads.Post
 reach_of_lem κs a x y e f = coincide
 
-fill_vector : OneOutcome (λ κs x e. e.1.1.1.0.now) fill-vector-reads.Post
-fill_vector κs a x y e f = coincide
-
-choose_classes : OneOutcome (λ κs x e. e.1.1.1.0.now) choose-classes-reads.Post
+choose_classes : OneOutcome (λ κs x e. e.1.1.0.now) choose-classes-reads.Post
 choose_classes κs a x y e f = coincide
 
-choose_items : OneOutcome (λ κs x e. e.1.1.0.now) choose-items-reads.Post
+choose_items : OneOutcome (λ κs x e. e.1.0.now) choose-items-reads.Post
 choose_items κs a x y e f = coincide

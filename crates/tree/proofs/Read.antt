@@ -14,7 +14,7 @@ use Rattle.paper.specs.Windows.{chosen_near}
 use Rattle.paper.specs.Trees.{Tree, is_root, row_of, cross_of, choose_from, class_choice}
 use Rattle.amount.proofs.Sums.{sum_cong}
 use Rattle.amount.proofs.Lists.{listed_length, listed_at}
-use Rattle.amount.proofs.Lowest.{lowest_cong}
+use Rattle.amount.proofs.Worst.{lowest_cong}
 use Rattle.window.proofs.Near.{near_cong, ChosenNear, chosen_is, chosen_only}
 use Rattle.vector.proofs.Listed.{begun}
 use Rattle.tree.specs.Buffers.{rows_in, from_root, HoldsRows}

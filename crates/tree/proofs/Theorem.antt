@@ -17,7 +17,7 @@ use Rattle.paper.specs.Windows.{lowest_near}
 use Rattle.paper.specs.Trees.{Tree, is_root, row_of, cross_of, Allowed, total_of, LowestTotal, class_choice, item_choice}
 use Rattle.amount.proofs.Ints.{ints, plus}
 use Rattle.amount.proofs.Sums.{sum_cong, sum_mono, sum_add, sum_swap, sum_none, sum_one}
-use Rattle.amount.proofs.Lowest.{lowest_is}
+use Rattle.amount.proofs.Worst.{lowest_is}
 use Rattle.window.proofs.Near.{near_is, chosen_is, root_is}
 use Rattle.tree.proofs.Only.{only_zero, only_mono, only_add, only_swap, only_sum}
 use Rattle.tree.proofs.Rows.{Valid, row_is, choice_root, choice_child}

@@ -1,11 +1,20 @@
 -- The rows that stand in a buffer, and what a class's row is made of.
-use Rattle.std.specs.Prelude.{◌≡◌, List, ◌++◌, ℕ, ◌+◌, ◌-◌, ◌*◌, ◌≤◌, ◌<◌, eqb, ℤ, pos, ◌+ℤ◌, length, take, drop, get_or}
+use Rattle.std.specs.Prelude.{◌≡◌, cond, List, ◌++◌, ℕ, ◌+◌, ◌-◌, ◌*◌, ◌≤◌, ◌<◌, eqb, ℤ, pos, ◌+ℤ◌, length, take, drop, get_or, Option, Some, None}
 use Rattle.std.specs.Int.{w64}
 use Rattle.std.proofs.Common.{SFits}
 use Rattle.paper.specs.Sums.{sum, only, listed, lowest}
 use Rattle.paper.specs.Windows.{lowest_near}
 use Rattle.paper.specs.Trees.{Tree, is_root, row_of, class_choice}
-use Rattle.paper.specs.Answers.{Walk, class_point}
+use Rattle.paper.specs.Answers.{Walk, walk_of, class_point}
+use Rattle.book.specs.declared.SoundBook.{SoundBook}
+
+-- a sound book's tree with its rows
+abbrev pub walk : SoundBook → Walk
+walk b = walk_of b.bytes.now b.shape
+
+-- class k's parent: a root has none
+abbrev pub parent_in : Tree → ℕ → Option ℕ
+parent_in t k = cond (is_root t k) None (Some (t.parent k))
 
 -- "Row k occupies entries k times points onward": its entry at point x
 abbrev pub rows_in : ℕ → List ℤ → ℕ → ℕ → ℤ
@@ -14,6 +23,10 @@ rows_in points rows k x = get_or rows (k * points + x) (pos 0)
 -- row k ends within the buffer
 abbrev pub RowWithin : ℕ → List ℤ → ℕ → Type 0
 RowWithin points rows k = k * points + points ≤ length rows
+
+-- all rows of a sound book do
+abbrev pub RoomForRows : SoundBook → List ℤ → Type 0
+RoomForRows b rows = b.shape.classes * b.shape.points ≤ length rows
 
 -- the p entries from `from` on, and the list with others in their place
 abbrev pub part_of : ℕ → ℕ → List ℤ → List ℤ
@@ -25,10 +38,6 @@ put from p rows part = take from rows ++ (part ++ drop p (drop from rows))
 -- the buffer with row k at f's values, and all else as it was
 unfoldable pub with_row : ℕ → List ℤ → ℕ → (ℕ → ℤ) → List ℤ
 with_row points rows k f = put (k * points) points rows (listed points f)
-
--- the list `to` with `from` over its first entries
-abbrev pub over : List ℤ → List ℤ → List ℤ
-over from to = from ++ drop (length from) to
 
 -- a vector's lowest entry within reach r of x on top of row k's entry there
 abbrev pub slid_over : ℕ → List ℤ → ℕ → (ℕ → ℤ) → ℕ → ℕ → ℤ

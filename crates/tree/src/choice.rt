@@ -1,75 +1,64 @@
 // The points of the choice handed back, one a class and then one an instrument.
-ghost use Rattle.std.specs.Prelude.{◌≡◌, ◌≢◌, ◌++◌, ℕ, ◌+◌, ◌*◌, ◌<◌, ◌≤◌, length, take, drop};
-ghost use Rattle.paper.specs.declared.Verdict.TheVariants.{Sound};
+ghost use Rattle.std.specs.Prelude.{◌≡◌, ◌≢◌, ◌++◌, ◌+◌, ◌<◌, ◌≤◌, length, take, drop};
 ghost use Rattle.paper.specs.Sums.{listed};
 ghost use Rattle.paper.specs.Records.{root};
-ghost use Rattle.paper.specs.Refusals.{verdict_of};
 ghost use Rattle.paper.specs.Windows.{chosen_near};
 ghost use Rattle.paper.specs.Trees.{choose_from, class_choice, item_choice};
-ghost use Rattle.paper.specs.Answers.{class_point, walk_of};
-ghost use Rattle.tree.specs.Buffers.{rows_in, HoldsRows, ChosenClasses};
+ghost use Rattle.paper.specs.Answers.{class_point};
+ghost use Rattle.tree.specs.Buffers.{walk, rows_in, RoomForRows, HoldsRows, ChosenClasses};
 
 use crate::{row, terms};
-use paper::Shape;
+use book::SoundBook;
+use vector::Item;
 
 // A child's point: the lowest-numbered one with its lowest entry within its parent's reach. A root's is chosen as a child's of
 // the middle point would be, with the whole scale in reach.
-#[tactic(auto, using(book::proofs::Sound::records_within))]
-fn class_point(book: &[u8], s: Shape, rows: &[i64], choice: &[u16], k: usize) -> u16
-    requires { (verdict_of book.now ≡ Sound s) × (k < s.classes) × (s.classes * s.points ≤ length rows.now) × (s.classes ≤ length choice.now) × ((walk_of book.now s).tree.parent k ≢ root → class_point choice.now ((walk_of book.now s).tree.parent k) < s.points) }
-    ensures { result ≡ choose_from (walk_of book.now s).tree (rows_in s.points rows.now) (class_point choice.now) k }
+#[tactic(auto, using(crate::proofs::Book::parent_before))]
+fn class_point(book: &SoundBook, rows: &[i64], choice: &[u16], k: usize) -> u16
+    requires { (k < book.now.shape.classes) × RoomForRows book.now rows.now × (book.now.shape.classes ≤ length choice.now) × ((walk book.now).tree.parent k ≢ root → class_point choice.now ((walk book.now).tree.parent k) < book.now.shape.points) }
+    ensures { result ≡ choose_from (walk book.now).tree (rows_in book.now.shape.points rows.now) (class_point choice.now) k }
 {
-    let parent = record::class_at(book, k).parent;
-    let points = s.points;
-    if parent == terms::ROOT {
-        row::chosen_in(rows, points, k, points, (points - 1) / 2)
-    } else {
-        let above = parent as usize;
-        let reach = terms::reach_of(book, s, above);
-        row::chosen_in(rows, points, k, reach, choice[above] as usize)
+    let points = book.shape.points;
+    match terms::parent_of(book, k) {
+        None => row::chosen_in(rows, points, k, points, (points - 1) / 2),
+        Some(above) => {
+            let reach = terms::reach_of(book, above);
+            row::chosen_in(rows, points, k, reach, choice[above] as usize)
+        }
     }
 }
 
 // Classes upward in number: a parent's is the smaller.
-pub fn choose_classes(book: &[u8], s: Shape, rows: &[i64], choice: &mut [u16])
-    requires { (verdict_of book.now ≡ Sound s) × (s.classes * s.points ≤ length rows.now) × HoldsRows (walk_of book.now s).tree rows.now × (s.classes ≤ length choice.old) }
-    ensures { choice.new ≡ listed s.classes (class_choice (walk_of book.now s).tree (walk_of book.now s).row) ++ drop s.classes choice.old }
+pub fn choose_classes(book: &SoundBook, rows: &[i64], choice: &mut [u16])
+    requires { RoomForRows book.now rows.now × HoldsRows (walk book.now).tree rows.now × (book.now.shape.classes ≤ length choice.old) }
+    ensures { choice.new ≡ listed book.now.shape.classes (class_choice (walk book.now).tree (walk book.now).row) ++ drop book.now.shape.classes choice.old }
 {
-    let n = s.classes;
-    let mut k = 0;
-    while k < n {
-        let point = class_point(book, s, rows, choice, k);
-        choice[k] = point;
-        k += 1;
+    for k in 0..book.shape.classes {
+        choice[k] = class_point(book, rows, choice, k);
     }
 }
 
 // The point of instrument i, from its class's point.
-#[tactic(auto, using(book::proofs::Sound::records_within))]
-fn item_point(book: &[u8], s: Shape, choice: &[u16], i: usize) -> u16
-    requires { (verdict_of book.now ≡ Sound s) × (i < s.instruments) × (s.classes ≤ length choice.now) × (class_point choice.now ((walk_of book.now s).tree.home i) < s.points) }
-    ensures { result ≡ chosen_near s.points ((walk_of book.now s).tree.amount i) ((walk_of book.now s).tree.reach ((walk_of book.now s).tree.home i)) (class_point choice.now ((walk_of book.now s).tree.home i)) }
+#[tactic(auto, using(crate::proofs::Book::home_within))]
+fn item_point(book: &SoundBook, choice: &[u16], i: usize) -> u16
+    requires { (i < book.now.shape.instruments) × (book.now.shape.classes ≤ length choice.now) × (class_point choice.now ((walk book.now).tree.home i) < book.now.shape.points) }
+    ensures { result ≡ chosen_near book.now.shape.points ((walk book.now).tree.amount i) ((walk book.now).tree.reach ((walk book.now).tree.home i)) (class_point choice.now ((walk book.now).tree.home i)) }
 {
-    let home = record::instrument_at(book, s.classes + i).class as usize;
-    let reach = terms::reach_of(book, s, home);
+    let home = book.instrument(i).class as usize;
+    let reach = terms::reach_of(book, home);
     let middle = choice[home] as usize;
-    let points = s.points;
     let mut work = [0i64; 201];
-    terms::fill_vector(book, s, i, &mut work);
-    window::chosen_near(&work[..points], reach, middle) as u16
+    Item::of(book, i).fill(&mut work);
+    window::chosen_near(&work[..book.shape.points], reach, middle) as u16
 }
 
-// Instruments, once all classes have their points.
-pub fn choose_items(book: &[u8], s: Shape, choice: &mut [u16])
-    requires { (verdict_of book.now ≡ Sound s) × (s.classes + s.instruments ≤ length choice.old) × ChosenClasses (walk_of book.now s) choice.old }
-    ensures { choice.new ≡ take s.classes choice.old ++ (listed s.instruments (item_choice (walk_of book.now s).tree (walk_of book.now s).row) ++ drop (s.classes + s.instruments) choice.old) }
+// Instruments, once all classes have their points. One function for both would take the step, and what it promises, as a closure:
+// no plainer.
+pub fn choose_items(book: &SoundBook, choice: &mut [u16])
+    requires { (book.now.shape.classes + book.now.shape.instruments ≤ length choice.old) × ChosenClasses (walk book.now) choice.old }
+    ensures { choice.new ≡ take book.now.shape.classes choice.old ++ (listed book.now.shape.instruments (item_choice (walk book.now).tree (walk book.now).row) ++ drop (book.now.shape.classes + book.now.shape.instruments) choice.old) }
 {
-    let n = s.instruments;
-    let mut i = 0;
-    while i < n {
-        let point = item_point(book, s, choice, i);
-        let at = s.classes + i;
-        choice[at] = point;
-        i += 1;
+    for i in 0..book.shape.instruments {
+        choice[book.shape.classes + i] = item_point(book, choice, i);
     }
 }

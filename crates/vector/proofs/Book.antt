@@ -1,5 +1,6 @@
 -- What a sound book has for the loops over it: where its records stand, what its fields' tests say, and that what is held
 -- and what is totalled fits, as far as it is summed; and the mark-to-market total is that of the instruments. Assumes nothing.
+use Rattle.std.specs.Prelude.{Ok}
 use mathlib.Core.Path.{◌≡◌, sym, ◌∙◌}
 use mathlib.Core.Logic.{◌⊎◌, inl, inr}
 use mathlib.Core.Bool.{Bool, true, false}
@@ -14,7 +15,6 @@ use mir.Syntax.{w64}
 use mir.Val.{SFits}
 use Rattle.paper.specs.declared.Shape.{Shape}
 use Rattle.paper.specs.declared.Position.{Position}
-use Rattle.paper.specs.declared.Verdict.TheVariants.{Sound}
 use Rattle.paper.specs.Sums.{sum, only}
 use Rattle.paper.specs.Records.{instrument_of, position_of}
 use Rattle.paper.specs.Refusals.{position_fits, verdict_of}
@@ -67,7 +67,7 @@ module _ (b : List ℕ) (s : Shape) (i k : ℕ) where
   pub mark_other : ((position_of b s k).instrument ≡ i → ⊥) → mark_for b s i k ≡ pos 0
   mark_other e = rw (ne_eqb (position_of b s k).instrument i e)
 
-module _ (b : List ℕ) (s : Shape) (sound : verdict_of b ≡ Sound s) where
+module _ (b : List ℕ) (s : Shape) (sound : verdict_of b ≡ Ok s) where
   pub book : SoundBook b s
   book = sound_book b s sound
 

@@ -19,9 +19,10 @@ use Rattle.paper.specs.Records.{bought, traded_today}
 use Rattle.paper.specs.Products as paper
 use Rattle.paper.specs.Products.{shift, rising, falling, times_net, amount_at, naked_of, move, mark_one, mark_of}
 use Rattle.amount.proofs.Ints.{ints, plus, neg, sign, abs}
-use Rattle.amount.proofs.Lowest.{lowest_is}
+use Rattle.amount.proofs.Worst.{lowest_is}
 use mir.Syntax.{w64}
 use mir.Val.{SFits, to_z, of_z}
+use Rattle.vector.specs.Parts.{one_at}
 use Rattle.vector.proofs.Signs.{size_neg, size_plus, size_times, times_one, size_fits, read_back}
 use Rattle.vector.proofs.Rounding.{nearest_within}
 use Rattle.vector.proofs.Ranges.{UpTo, Ranges, Fit, fra, future, bond, fit, widest, wider, Holds, holds}
@@ -107,10 +108,6 @@ chosen f product a b c d = go (eqb product 1) (eqb product 2) (eqb product 3)
     go false true u = refl
     go false false true = refl
     go false false false = refl
-
--- the amount of one contract
-abbrev pub one_at : Instrument → ℕ → Bool → ℕ → ℤ
-one_at x m buys i = by_product x.product (paper.fra x m buys i) (paper.future x m buys i) (paper.bond x m buys i) (pos 0)
 
 -- "times the size of the net": a net of zero needs no case of its own
 pub times_net_lem : (net : ℤ) (one : Bool → ℤ) → times_net net one ≡ one (non_neg net) *ℤ pos (nat_abs net)

@@ -15,11 +15,12 @@ use Rattle.paper.specs.Rounding.{nearest}
 use Rattle.paper.specs.Refusals.{instrument_fits}
 use Rattle.paper.specs.Products.{shift, amount_at, naked_of, naked_of_one}
 use Rattle.amount.proofs.Ints.{ints, plus, neg}
-use Rattle.amount.proofs.Lowest.{Lowest, lowest_only, lowest_cong}
+use Rattle.amount.proofs.Worst.{Lowest, lowest_only, lowest_cong}
+use Rattle.vector.specs.Parts.{one_at}
 use Rattle.vector.proofs.Signs.{size_below, times_mono, times_plus, times_neg, times_minus, times_swap, times_one}
 use Rattle.vector.proofs.Rounding.{nearest_neg, nearest_mono, nearest_scale}
 use Rattle.vector.proofs.Ranges.{UpTo, Fit, fra, future, bond, fit}
-use Rattle.vector.proofs.Bounds.{tilt, rounded, tilt_size, edge, one_at, amount_is, future_is, bond_is}
+use Rattle.vector.proofs.Bounds.{tilt, rounded, tilt_size, edge, amount_is, future_is, bond_is}
 
 -- the end of the scale where a side loses most
 abbrev end : Bool → ℕ → ℕ

@@ -9,7 +9,7 @@ use lib.Signed.{◌≤ℤ◌, ◌<ℤ◌}
 use Rattle.paper.specs.Sums.{lowest}
 use Rattle.paper.specs.Windows.{width, Near, window_from, window_more, lowest_near, chosen_near}
 use Rattle.amount.proofs.Ints.{ints}
-use Rattle.amount.proofs.Lowest.{Lowest, lowest_is, lowest_only, lowest_cong, lowest_mono}
+use Rattle.amount.proofs.Worst.{Lowest, lowest_is, lowest_only, lowest_cong, lowest_mono}
 use Rattle.window.proofs.First.{FirstLowest, first_lowest_is, first_lowest_only}
 
 -- w is odd, not below share * points / 10,000, and no smaller odd number is so

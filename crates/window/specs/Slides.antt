@@ -1,13 +1,17 @@
 -- A vector of amounts, and a row that it is slid over.
-use Rattle.std.specs.Prelude.{List, ℕ, ◌<◌, ℤ, pos, ◌+ℤ◌, length, get_or}
+use Rattle.std.specs.Prelude.{List, ℕ, ◌+◌, ◌<◌, ℤ, pos, ◌+ℤ◌, length, get_or, take, drop}
 use Rattle.std.specs.Int.{w64}
 use Rattle.std.proofs.Common.{SFits}
 use Rattle.paper.specs.Sums.{listed, lowest}
-use Rattle.paper.specs.Windows.{lowest_near, first_at}
+use Rattle.paper.specs.Windows.{window_from, window_more, lowest_near, first_at}
 
 -- the entry at point y
 abbrev pub entry_of : List ℤ → ℕ → ℤ
 entry_of v y = get_or v y (pos 0)
+
+-- v's entries at the points within reach r of x
+abbrev pub within : List ℤ → ℕ → ℕ → List ℤ
+within v r x = take (window_more (length v) r x + 1) (drop (window_from r x) v)
 
 -- of the points a, .., a + n the lowest-numbered with the lowest entry there
 abbrev pub first_lowest : (ℕ → ℤ) → ℕ → ℕ → ℕ

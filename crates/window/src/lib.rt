@@ -6,13 +6,14 @@ ghost use Rattle.std.specs.Prelude.{◌≡◌, ◌+◌, ◌-◌, ◌<◌, ◌≤
 ghost use Rattle.std.specs.Int.Signed.{lt_z};
 ghost use Rattle.paper.specs.Sums.{lowest};
 ghost use Rattle.paper.specs.Windows.{width as width_of, reach_of, window_from, lowest_near, chosen_near};
-ghost use Rattle.window.specs.Slides.{entry_of, first_lowest, slid, SlideFits};
+ghost use Rattle.window.specs.Slides.{entry_of, within, first_lowest, slid, SlideFits};
 
 // The smallest odd number not below share times points / 10,000.
+#[tactic(auto, unfolding(paper::specs::Windows::width))]
 pub fn width(share: u16, points: u16) -> usize
     ensures { result ≡ width_of share points }
 {
-    (share as usize * points as usize + 9999) / 10000 / 2 * 2 + 1
+    (usize::from(share) * usize::from(points)).div_ceil(10_000) / 2 * 2 + 1
 }
 
 // Half the width, rounded down.
@@ -26,7 +27,7 @@ pub fn reach(share: u16, points: u16) -> usize
 fn first_within(r: usize, x: usize) -> usize
     ensures { result ≡ window_from r x }
 {
-    if x < r { 0 } else { x - r }
+    x.saturating_sub(r)
 }
 
 // The last point of the scale within reach r of x.
@@ -34,21 +35,15 @@ fn last_within(points: usize, r: usize, x: usize) -> usize
     requires { x < points }
     ensures { result ≡ min (x + r) (points - 1) }
 {
-    if points - x <= r { points - 1 } else { x + r }
+    x.saturating_add(r).min(points - 1)
 }
 
-// The lowest entry of v at the points from..=to.
-fn lowest_between(v: &[i64], from: usize, to: usize) -> i64
-    requires { (from ≤ to) × (to < length v.now) }
-    ensures { result ≡ lowest (entry_of v.now) from (to - from) }
+// The entries of v within reach r of x.
+fn within(v: &[i64], r: usize, x: usize) -> &[i64]
+    requires { x < length v.now }
+    ensures { result.now ≡ within v.now r x }
 {
-    let mut best = v[from];
-    let mut y = from;
-    while y < to {
-        y += 1;
-        best = amount::worse(best, v[y]);
-    }
-    best
+    &v[first_within(r, x)..=last_within(v.len(), r, x)]
 }
 
 // The lowest entry of v within reach r of x.
@@ -56,42 +51,25 @@ pub fn lowest_near(v: &[i64], r: usize, x: usize) -> i64
     requires { x < length v.now }
     ensures { result ≡ lowest_near (length v.now) (entry_of v.now) r x }
 {
-    let from = first_within(r, x);
-    let to = last_within(v.len(), r, x);
-    lowest_between(v, from, to)
+    amount::lowest(within(v, r, x))
 }
 
-// Whether a is lower than b.
-fn is_worse(a: i64, b: i64) -> bool
-    ensures { result ≡ lt_z a b }
+// The lowest-numbered point with v's lowest entry.
+fn first_lowest(v: &[i64]) -> usize
+    requires { 0 < length v.now }
+    ensures { result ≡ first_lowest (entry_of v.now) 0 (length v.now - 1) }
 {
-    a < b
-}
-
-// Of the points from..=to the lowest-numbered with the lowest entry of v there.
-fn first_lowest(v: &[i64], from: usize, to: usize) -> usize
-    requires { (from ≤ to) × (to < length v.now) }
-    ensures { result ≡ first_lowest (entry_of v.now) from (to - from) }
-{
-    let mut first = from;
-    let mut y = from;
-    while y < to {
-        y += 1;
-        if is_worse(v[y], v[first]) {
-            first = y;
-        }
-    }
-    first
+    let low = amount::lowest(v);
+    v.iter().position(|z| *z <= low).unwrap()
 }
 
 // The lowest-numbered point within reach r of x with v's lowest entry there.
+#[tactic(auto, using(crate::proofs::Part::first_within, crate::proofs::Part::within_on))]
 pub fn chosen_near(v: &[i64], r: usize, x: usize) -> usize
     requires { x < length v.now }
     ensures { result ≡ chosen_near (length v.now) (entry_of v.now) r x }
 {
-    let from = first_within(r, x);
-    let to = last_within(v.len(), r, x);
-    first_lowest(v, from, to)
+    first_within(r, x) + first_lowest(within(v, r, x))
 }
 
 // Slides v over the row: each entry grows by v's lowest entry within reach r of its point.
@@ -99,12 +77,7 @@ pub fn slide(row: &mut [i64], v: &[i64], r: usize)
     requires { (length row.old ≡ length v.now) × SlideFits row.old v.now r }
     ensures { row.new ≡ slid row.old v.now r }
 {
-    let n = row.len();
-    let mut x = 0;
-    while x < n {
-        let low = lowest_near(v, r, x);
-        let sum = amount::plus(row[x], low);
-        row[x] = sum;
-        x += 1;
+    for (x, sum) in row.iter_mut().enumerate() {
+        *sum = amount::plus(*sum, lowest_near(v, r, x));
     }
 }

@@ -1,41 +1,63 @@
 // A refusal in words: which record, of what kind, and what is wrong with it.
 #![tactic(auto)]
 
-ghost use Rattle.std.specs.Prelude.{◌≡◌, ◌≤◌, length};
-ghost use Rattle.text.specs.Text.{right};
-ghost use Rattle.words.specs.Words.{record_line, book_line, refusal_line};
+ghost use Rattle.std.specs.Prelude.{◌≡◌, ◌≤◌, length, Some};
+ghost use Rattle.paper.specs.Records.{rank};
+ghost use Rattle.words.specs.Words.{bytes, kind_words as kind_words_of, record_line, book_line, refusal_line};
 
-use paper::Fault;
+use paper::{Fault, Kind, Refusal};
 use text::Text;
 
-// The line of a record, by its number and kind.
-fn of_record(place: usize, kind: u8, meaning: &[u8]) -> Text
-    requires { length meaning.now ≤ 44 }
-    ensures { result ≡ right (record_line place kind meaning.now) }
+// What a record of a kind is called.
+#[tactic(auto, unfolding(crate::specs::Words::bytes))]
+fn called(kind: Kind) -> &'static [u8]
+    ensures words { result.now ≡ bytes (kind_words_of (rank (Some kind))) }
+    ensures short { length result.now ≤ 17 }
 {
     match kind {
-        1 => lines::remark(b"record ", place as u64, b", a class: ", meaning),
-        2 => lines::remark(b"record ", place as u64, b", an instrument: ", meaning),
-        3 => lines::remark(b"record ", place as u64, b", a position: ", meaning),
-        _ => lines::remark(b"record ", place as u64, b", of no kind: ", meaning),
+        Kind::Class => b", a class: ",
+        Kind::Instrument => b", an instrument: ",
+        Kind::Position => b", a position: ",
     }
+}
+
+// And one of none.
+#[tactic(auto, unfolding(crate::specs::Words::bytes))]
+fn kind_words(kind: Option<Kind>) -> &'static [u8]
+    ensures words { result.now ≡ bytes (kind_words_of (rank kind)) }
+    ensures short { length result.now ≤ 17 }
+{
+    match kind {
+        Some(kind) => called(kind),
+        None => b", of no kind: ",
+    }
+}
+
+// The line of a record, by its number and kind.
+#[tactic(auto, unfolding(crate::specs::Words::bytes))]
+fn of_record(place: usize, kind: Option<Kind>, meaning: &[u8]) -> Text
+    requires { length meaning.now ≤ 44 }
+    ensures { result ≡ record_line place (rank kind) meaning.now }
+{
+    lines::remark(b"record ", place as u64, kind_words(kind), meaning)
 }
 
 // The line of a book, by its whole records.
 #[tactic(auto, unfolding(crate::specs::Words::bytes))]
 fn of_book(place: usize, meaning: &[u8]) -> Text
     requires { length meaning.now ≤ 44 }
-    ensures { result ≡ right (book_line place meaning.now) }
+    ensures { result ≡ book_line place meaning.now }
 {
     lines::remark(b"a book of ", place as u64, b" whole records: ", meaning)
 }
 
-// The line of a refusal. The kind is the rank of the record's, and 0 where it has none.
+// The line of a refusal, with the kind of the record that it is of.
 #[tactic(auto, unfolding(crate::specs::Words::bytes))]
-pub fn refusal(f: Fault, place: usize, kind: u8) -> Text
-    ensures { result ≡ right (refusal_line f place kind) }
+pub fn refusal(refusal: Refusal, kind: Option<Kind>) -> Text
+    ensures { result ≡ refusal_line refusal.fault refusal.place (rank kind) }
 {
-    match f {
+    let place = refusal.place;
+    match refusal.fault {
         Fault::Length => of_book(place, b"the length is not a multiple of 32 bytes"),
         Fault::Letter => of_record(place, kind, b"its letter is not C, I or P"),
         Fault::Order => of_record(place, kind, b"it comes after a record of a later kind"),

@@ -1,8 +1,8 @@
-use Rattle.std.proofs.Common.{◌≡◌, ◌∙◌, ap, List, ℕ, ◌-◌, ◌/◌, length, arith, rules}
+use Rattle.paper.specs.Refusals.{Finding}
+use Rattle.std.proofs.Common.{◌≡◌, ◌∙◌, ap, List, ℕ, ◌-◌, ◌/◌, length, arith}
 use Rattle.std.proofs.Math.Nat.{sub-zero}
 use borrow.Author.Tests.{eq-eqb, ne_eqb}
 use Rattle.paper.specs.declared.Shape.{Shape}
-use Rattle.paper.specs.declared.Finding.{Finding}
 use Rattle.paper.specs.Records.{count, shape_of}
 use Rattle.paper.specs.Refusals.{tests, first_given, finding_at, verdict_from, verdict_of}
 use Rattle.book.proofs.Verdicts.{step}
@@ -20,32 +20,26 @@ returns-then-book-ne0 c = rw (ne_eqb _ _ c.if-book-ne0.true)
 
 pub loop-r-init : goal.loop-r-init
 unfolding verdict_of shape_of count
-loop-r-init c = (search rules, search rules, rw c.first_points.ensures, rw (eq-eqb _ _ c.if-book-ne0.false, sub-zero))
+loop-r-init c = (rw c.first_points.ensures, rw (eq-eqb _ _ c.if-book-ne0.false, sub-zero))
 
-pub finding-found-requires : goal.finding-found-requires
-finding-found-requires c =
-    let l = c.loop-r in
-    (omega arith, rw l.invariant.2 (omega (arith, shape_le c.args.book.now l.r)))
+pub invariant_of-next-in-loop-r : goal.invariant_of-next-in-loop-r
+invariant_of-next-in-loop-r c = let l = c.loop-r in record { earlier = rw l.invariant.0 (omega (arith, shape_le c.args.book.now l.r)) }
 
-pub returns-in-Faulty : goal.returns-in-Faulty
-returns-in-Faulty c =
+pub returns-in-Err : goal.returns-in-Err
+returns-in-Err c =
     let l = c.loop-r in
     let b = c.args.book.now in
-    rw (l.invariant.3, step b l.r _ c.loop-r-test.true, ← found b l.r _ _ c.in-Faulty.ensures l.invariant.2)
+    rw (l.invariant.1, step b l.r _ c.loop-r-test.true, ← found b l.r _ _ c.in-Err.ensures l.invariant.0)
 
 pub loop-r-preserved : goal.loop-r-preserved
 loop-r-preserved c =
     let l = c.loop-r in
-    let b = c.args.book.now in (
-      omega arith,
-      omega arith,
-      c.counted-s.ensures,
-      l.invariant.3 ∙ rw (step b l.r _ c.loop-r-test.true, ← found b l.r _ _ c.in-Clean.ensures l.invariant.2),
-    )
+    let b = c.args.book.now in
+    (c.counted-before.ensures, l.invariant.1 ∙ rw (step b l.r _ c.loop-r-test.true, ← found b l.r _ _ c.in_default.ensures l.invariant.0))
 
 pub returns : goal.returns
 unfolding verdict_from
 returns c =
     let l = c.loop-r in
     let e : length c.args.book.now / 32 - l.r ≡ 0 = omega arith in
-    rw (l.invariant.3, e, ← l.invariant.2)
+    rw (l.invariant.1, e, ← l.invariant.0)

@@ -12,28 +12,26 @@ summed mark naked cross same e = λ i. record { mark = +ℤ_idl mark i; naked = 
 
 pub cross-totals-requires : goal.cross-totals-requires
 cross-totals-requires c =
-    let a = c.args in (
-      c.requires.0,
+    let b = c.args.book.now in (
       omega arith,
-      rows_read (walk_of a.book.now a.s) c.fill_rows.new.rows a.rows.now c.fill_rows.ensures,
+      rows_read (walk_of b.bytes.now b.shape) c.fill_rows.new.rows c.args.rows.now c.fill_rows.ensures,
       rw (c.nakeds-bare.ensures, c.marks-marked.ensures, c.none.ensures) (omega arith),
     )
 
 pub choose-requires : goal.choose-requires
 choose-requires c =
-    let a = c.args in
-    (c.requires.0, omega arith, rows_read (walk_of a.book.now a.s) c.fill_rows.new.rows a.rows.now c.fill_rows.ensures, c.requires.2)
+    let b = c.args.book.now in
+    (omega arith, rows_read (walk_of b.bytes.now b.shape) c.fill_rows.new.rows c.args.rows.now c.fill_rows.ensures, c.requires.choice)
 
 pub returns : goal.returns
 returns c =
-    let a = c.args in
-    let b = a.book.now in
-    let w = walk_of b a.s in
-    let held = rows_read w c.fill_rows.new.rows a.rows.now c.fill_rows.ensures in
+    let b = c.args.book.now in
+    let w = walk_of b.bytes.now b.shape in
+    let held = rows_read w c.fill_rows.new.rows c.args.rows.now c.fill_rows.ensures in
     record {
       totalled = c.cross-totals.ensures
           ∙ rw (c.nakeds-bare.ensures, c.marks-marked.ensures, c.none.ensures)
-          (summed _ _ _ _ (cross_held w.tree (valid b a.s c.requires.0) c.fill_rows.new.rows held));
+          (summed _ _ _ _ (cross_held w.tree (valid b.bytes.now b.shape b.sound) c.fill_rows.new.rows held));
       rows_hold = c.fill_rows.ensures;
       choice_holds = c.choose.ensures;
     }

@@ -1,20 +1,25 @@
 use Rattle.std.proofs.Common.{sym, length}
-use Rattle.margin.proofs.Promises.{room, accepted, refused}
+use Rattle.std.proofs.lemmas.Result.{err_from_is_err_and}
+use Rattle.margin.proofs.Promises.{room, accepted, turned_down}
 use Rattle.margin.proofs.run.Goals as goal
+
+pub invariant_of-sound : goal.invariant_of-sound
+invariant_of-sound c = record { sound = (room c.args.book.now _ _ c.in_ok-shape.shape (sym c.in_ok-shape.ensures)).sound }
 
 pub figures-requires : goal.figures-requires
 figures-requires c =
     let a = c.args in
-    let k = room a.book.now (length a.rows.now) (length a.choice.now) c.in-Sound.s (sym c.in-Sound.ensures) in
-    (k.sound, k.rows_fit, k.choice_fits)
+    let k = room a.book.now (length a.rows.now) (length a.choice.now) c.in_ok-shape.shape (sym c.in_ok-shape.ensures) in
+    record { rows = k.rows_fit; choice = k.choice_fits }
 
-pub returns-in-Sound : goal.returns-in-Sound
-returns-in-Sound c =
+pub returns : goal.returns
+returns c =
     let a = c.args in
     let f = c.figures in
-    accepted a.book.now a.rows.now a.choice.now c.in-Sound.s f.result f.new.rows f.new.choice (sym c.in-Sound.ensures) f.ensures
+    accepted a.book.now a.rows.now a.choice.now c.in_ok-shape.shape f.result f.new.rows f.new.choice (sym c.in_ok-shape.ensures) f.ensures
 
-pub returns-in-Refused : goal.returns-in-Refused
-returns-in-Refused c =
+pub returns-in_err-shape : goal.returns-in_err-shape
+returns-in_err-shape c =
     let a = c.args in
-    refused a.book.now a.rows.now a.choice.now _ _ (sym c.in-Refused.ensures)
+    let p = err_from_is_err_and c.from_residual.result c.from_residual.ensures.1 in
+    rw (p.1, p.2) (turned_down a.book.now a.rows.now a.choice.now _ _ (sym c.in_err-shape.ensures))

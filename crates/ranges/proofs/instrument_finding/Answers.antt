@@ -1,16 +1,16 @@
-use Rattle.std.proofs.Common.{◌≡◌, false, rules}
+use Rattle.std.proofs.lemmas.Result.{err_from_is_err_and}
+use Rattle.std.proofs.Common.{◌≡◌, false}
 use Rattle.paper.specs.Refusals.{instrument_fits}
-use Rattle.ranges.proofs.Products.{fra_instrument, future_instrument, bond_instrument, no_instrument}
+use Rattle.ranges.proofs.Products.{product_is, no_product, instrument_held, instrument_of_none}
 use Rattle.ranges.proofs.instrument_finding.Goals as goal
 
-pub returns-in-1 : goal.returns-in-1
-returns-in-1 c = rw (c.found.ensures, c.instrument_holds.ensures, c.fra.ensures, fra_instrument c.args.i c.in-1.is)
+pub returns-in_err-product : goal.returns-in_err-product
+returns-in_err-product c =
+    let h = no_product _ _ c.in_err-product.ensures in
+    let e : instrument_fits c.args.i ≡ false = instrument_of_none c.args.i _ h in
+    let p = err_from_is_err_and c.from_residual.result c.from_residual.ensures.1 in
+    rw (p.1, p.2, e, h.fault)
 
-pub returns-in-2 : goal.returns-in-2
-returns-in-2 c = rw (c.found-in-2.ensures, c.instrument_holds-in-2.ensures, c.future.ensures, future_instrument c.args.i c.in-2.is)
-
-pub returns-in-3 : goal.returns-in-3
-returns-in-3 c = rw (c.found-in-3.ensures, c.instrument_holds-in-3.ensures, c.bond.ensures, bond_instrument c.args.i c.in-3.is)
-
-pub returns-in_default : goal.returns-in_default
-returns-in_default c = let e : instrument_fits c.args.i ≡ false = no_instrument c.args.i (search rules) (search rules) (search rules) in rw e
+pub returns : goal.returns
+returns c =
+    rw (c.found.ensures, c.instrument_holds.ensures, c.of.ensures, instrument_held c.args.i _ (product_is _ _ c.in_ok-product.ensures))

@@ -1,16 +1,16 @@
-use Rattle.std.proofs.Common.{◌≡◌, false, rules}
+use Rattle.std.proofs.lemmas.Result.{err_from_is_err_and}
+use Rattle.std.proofs.Common.{◌≡◌, false}
 use Rattle.paper.specs.Refusals.{position_fits}
-use Rattle.ranges.proofs.Products.{fra_position, future_position, bond_position, no_position}
+use Rattle.ranges.proofs.Products.{product_is, no_product, position_held, position_of_none}
 use Rattle.ranges.proofs.position_finding.Goals as goal
 
-pub returns-in-1 : goal.returns-in-1
-returns-in-1 c = rw (c.found.ensures, c.position_holds.ensures, c.fra.ensures, fra_position c.args.p c.args.product c.in-1.is)
+pub returns-in_err-product : goal.returns-in_err-product
+returns-in_err-product c =
+    let h = no_product _ _ c.in_err-product.ensures in
+    let e : position_fits c.args.p c.args.product ≡ false = position_of_none c.args.p _ _ h in
+    let p = err_from_is_err_and c.from_residual.result c.from_residual.ensures.1 in
+    rw (p.1, p.2, e, h.fault)
 
-pub returns-in-2 : goal.returns-in-2
-returns-in-2 c = rw (c.found-in-2.ensures, c.position_holds-in-2.ensures, c.future.ensures, future_position c.args.p c.args.product c.in-2.is)
-
-pub returns-in-3 : goal.returns-in-3
-returns-in-3 c = rw (c.found-in-3.ensures, c.position_holds-in-3.ensures, c.bond.ensures, bond_position c.args.p c.args.product c.in-3.is)
-
-pub returns-in_default : goal.returns-in_default
-returns-in_default c = let e : position_fits c.args.p c.args.product ≡ false = no_position c.args.p c.args.product (search rules) (search rules) (search rules) in rw e
+pub returns : goal.returns
+returns c =
+    rw (c.found.ensures, c.position_holds.ensures, c.of.ensures, position_held c.args.p _ _ (product_is _ _ c.in_ok-product.ensures))

@@ -7,6 +7,7 @@ use Rattle.tree.proofs.add_item.Goals as goal
 
 pub returns-else-home-k : goal.returns-else-home-k
 returns-else-home-k c =
-    let e : (walk_of c.args.book.now c.args.s).tree.home c.args.i ≡ c.instrument_at-home.result.class = rw c.instrument_at-home.ensures in
-    let within = row_within c.args.s.points c.args.s.classes c.args.k c.args.rows.now c.requires.3 c.requires.1 in
-    sym (with_none c.args.s.points c.args.rows.now c.args.k within (λ x l. rw (e, ne_eqb _ _ c.if-home-k.false) (+ℤ_idr _)))
+    let b = c.args.book.now in
+    let e : (walk_of b.bytes.now b.shape).tree.home c.args.i ≡ c.instrument-home.result.class = rw c.instrument-home.ensures in
+    let within = row_within b.shape.points b.shape.classes c.args.k c.args.rows.now c.requires.2 c.requires.0 in
+    sym (with_none b.shape.points c.args.rows.now c.args.k within (λ x l. rw (e, ne_eqb _ _ c.if-home-k.false) (+ℤ_idr _)))

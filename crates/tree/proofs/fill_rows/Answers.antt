@@ -10,36 +10,36 @@ use Rattle.tree.proofs.fill_rows.Goals as goal
 pub fill_row-requires : goal.fill_row-requires
 fill_row-requires c =
     let b = c.args.book.now in
-    let s = c.args.s in
-    let k = c.loop-k.k - 1 in
-    let h : k < s.classes = omega arith in
-    let room : s.classes * s.points ≤ length c.loop-k.rows = omega arith in (
-      c.requires.0,
+    let l = c.loop-k in
+    let k = l.k - 1 in
+    let h : k < b.shape.classes = omega arith in
+    let room : b.shape.classes * b.shape.points ≤ length l.rows = omega arith in (
       h,
       room,
       λ x n m g a d.
-          rw (result_part (walk_of b s).tree (valid _ _ c.requires.0) c.loop-k.rows k h room (λ j y u v w. c.loop-k.invariant.done j y (omega arith) v w) x n m g a)
-          (fits _ ((bounds b s c.requires.0).row_part k x n m h g a d)),
+          rw (result_part (walk_of b.bytes.now b.shape).tree (valid _ _ b.sound) l.rows k h room (λ j y u v w. l.invariant.done j y (omega arith) v w) x n m g a)
+          (fits _ ((bounds _ _ b.sound).row_part k x n m h g a d)),
     )
 
 pub loop-k-preserved : goal.loop-k-preserved
 loop-k-preserved c =
-    let s = c.args.s in
-    let t = (walk_of c.args.book.now s).tree in
-    let k = c.loop-k.k - 1 in
+    let b = c.args.book.now in
+    let l = c.loop-k in
+    let s = b.shape in
+    let t = (walk_of b.bytes.now s).tree in
+    let k = l.k - 1 in
     let h : k < s.classes = omega arith in
-    let room : s.classes * s.points ≤ length c.loop-k.rows = omega arith in
+    let room : s.classes * s.points ≤ length l.rows = omega arith in
     record {
-      below = omega arith;
-      long = omega arith;
       rest = rw c.fill_row.ensures
-          (with_rest s.points c.loop-k.rows k (within t (valid _ _ c.requires.0) c.loop-k.rows k h room) _ _ (row_end k s.classes s.points h)
-          ∙ c.loop-k.invariant.rest);
+          (with_rest s.points l.rows k (within t (valid _ _ b.sound) l.rows k h room) _ _ (row_end k s.classes s.points h)
+          ∙ l.invariant.rest);
       done = rw c.fill_row.ensures
-          (row_done t (valid _ _ c.requires.0) c.loop-k.rows k h room (λ j y u v w. c.loop-k.invariant.done j y (omega arith) v w));
+          (row_done t (valid _ _ b.sound) l.rows k h room (λ j y u v w. l.invariant.done j y (omega arith) v w));
     }
 
 pub returns : goal.returns
 returns c =
-    rows_are (walk_of c.args.book.now c.args.s) c.loop-k.rows c.args.rows.now (omega arith) c.loop-k.invariant.rest
+    let b = c.args.book.now in
+    rows_are (walk_of b.bytes.now b.shape) c.loop-k.rows c.args.rows.now (omega arith) c.loop-k.invariant.rest
     (λ k x h g. c.loop-k.invariant.done k x (omega arith) h g)

@@ -13,5 +13,5 @@ returns c =
     ∙ c.plus.ensures
     ∙ ap₂ ◌+ℤ◌
     (read_back s.held.net c.requires.0)
-    (back _ c.turned.type_inv ∙ c.turned.ensures ∙ ap (λ z. cond (bought s.p) z (neg_ℤ z)) q))
+    (back _ c.turned.type_inv ∙ (rw c.bought.ensures at c.turned.ensures) ∙ ap (λ z. cond (bought s.p) z (neg_ℤ z)) q))
     (back _ c.plus-2.type_inv ∙ c.plus-2.ensures ∙ ap₂ ◌+ℤ◌ (read_back s.held.gross c.requires.1) q)

@@ -1,10 +1,7 @@
-use Rattle.std.proofs.Common.{◌≡◌, ◌-◌, ◌≤◌}
+use Rattle.std.proofs.Common.{◌≡◌}
 use Rattle.paper.specs.Sums.{sum}
 use Rattle.vector.specs.Parts.{mark_for}
 use Rattle.vector.proofs.marked.Given as goal
 
-abbrev pub invariant-loop-next : goal.invariant-loop-next
-invariant-loop-next l = (l.next ≤ l.n) × (l.total ≡ sum l.next (mark_for l.book l.s l.i))
-
-abbrev pub decreases-loop-next : goal.decreases-loop-next
-decreases-loop-next l = l.n - l.next
+abbrev pub invariant-loop-k : goal.invariant-loop-k
+invariant-loop-k l = l.total ≡ sum l.k (mark_for l.book.bytes.now l.book.shape l.i)

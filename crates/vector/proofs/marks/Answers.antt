@@ -9,30 +9,28 @@ use Rattle.vector.proofs.Gross.{sum_next}
 use Rattle.vector.proofs.Book.{marks_fit}
 use Rattle.vector.proofs.marks.Goals as goal
 
-pub loop-k-init : goal.loop-k-init
+pub loop-p-init : goal.loop-p-init
 unfolding sum
-loop-k-init c = (omega arith, rw +ℤ_idr)
+loop-p-init c = rw +ℤ_idr
 
 pub with_mark-totals-requires : goal.with_mark-totals-requires
 with_mark-totals-requires c =
-    let l = c.loop-k in
+    let l = c.loop-p in
     let s = c.args in
-    let z = c.mark_at-amount in
-    rw (back _ z.type_inv, z.ensures, l.invariant.1, sum_next s.t.mark l.k (mark_at s.book.now s.s))
-    (marks_fit s.book.now s.s c.requires.0 (l.k + 1) s.t.mark (omega arith) c.requires.1)
+    let z = c.mark_at in
+    rw (back _ z.type_inv, z.ensures, l.invariant, sum_next s.t.mark l.p (mark_at s.book.now.bytes.now s.book.now.shape))
+    (marks_fit s.book.now.bytes.now s.book.now.shape s.book.now.sound (l.p + 1) s.t.mark (omega arith) c.requires)
 
-pub loop-k-preserved : goal.loop-k-preserved
-loop-k-preserved c =
-    let l = c.loop-k in
+pub loop-p-preserved : goal.loop-p-preserved
+loop-p-preserved c =
+    let l = c.loop-p in
     let s = c.args in
-    let z = c.mark_at-amount in (
-      omega arith,
-      c.with_mark-totals.ensures ∙ rw (back _ z.type_inv, z.ensures, l.invariant.1, sum_next s.t.mark l.k (mark_at s.book.now s.s)),
-    )
+    let z = c.mark_at in
+    c.with_mark-totals.ensures ∙ rw (back _ z.type_inv, z.ensures, l.invariant, sum_next s.t.mark l.p (mark_at s.book.now.bytes.now s.book.now.shape))
 
 pub returns : goal.returns
 unfolding mark_total
 returns c =
-    let l = c.loop-k in
+    let l = c.loop-p in
     let s = c.args in
-    l.invariant.1 ∙ ap (λ n. add_mark s.t (sum n (mark_at s.book.now s.s))) (omega arith)
+    l.invariant ∙ ap (λ n. add_mark s.t (sum n (mark_at s.book.now.bytes.now s.book.now.shape))) (omega arith)

@@ -11,28 +11,26 @@ use Rattle.vector.proofs.nakeds.Goals as goal
 
 pub loop-i-init : goal.loop-i-init
 unfolding sum
-loop-i-init c = (omega arith, rw +ℤ_idr)
+loop-i-init c = rw +ℤ_idr
 
 pub with_naked-totals-requires : goal.with_naked-totals-requires
 with_naked-totals-requires c =
     let l = c.loop-i in
     let s = c.args in
-    let z = c.naked_at-amount in
-    rw (back _ z.type_inv, z.ensures, l.invariant.1, sum_next s.t.naked l.i (naked_at s.book.now s.s))
-    (nakeds_fit s.book.now s.s c.requires.0 (l.i + 1) s.t.naked (omega arith) c.requires.1)
+    let z = c.naked_at in
+    rw (back _ z.type_inv, z.ensures, l.invariant, sum_next s.t.naked l.i (naked_at s.book.now.bytes.now s.book.now.shape))
+    (nakeds_fit s.book.now.bytes.now s.book.now.shape s.book.now.sound (l.i + 1) s.t.naked (omega arith) c.requires)
 
 pub loop-i-preserved : goal.loop-i-preserved
 loop-i-preserved c =
     let l = c.loop-i in
     let s = c.args in
-    let z = c.naked_at-amount in (
-      omega arith,
-      c.with_naked-totals.ensures ∙ rw (back _ z.type_inv, z.ensures, l.invariant.1, sum_next s.t.naked l.i (naked_at s.book.now s.s)),
-    )
+    let z = c.naked_at in
+    c.with_naked-totals.ensures ∙ rw (back _ z.type_inv, z.ensures, l.invariant, sum_next s.t.naked l.i (naked_at s.book.now.bytes.now s.book.now.shape))
 
 pub returns : goal.returns
 unfolding naked_total
 returns c =
     let l = c.loop-i in
     let s = c.args in
-    l.invariant.1 ∙ ap (λ n. add_naked s.t (sum n (naked_at s.book.now s.s))) (omega arith)
+    l.invariant ∙ ap (λ n. add_naked s.t (sum n (naked_at s.book.now.bytes.now s.book.now.shape))) (omega arith)

@@ -1,8 +1,7 @@
 use Rattle.std.proofs.Common.{◌≡◌, List, [], ◌∷◌, ℕ, arith, rules}
 use Rattle.paper.specs.declared.Totals.{Totals}
 use Rattle.paper.specs.Listing.{kroner, line, MTM, NAKED, CROSS}
-use Rattle.text.specs.Text.{right}
-use Rattle.listing.proofs.Pages.{written, shown_length, fits_last, joined_three}
+use Rattle.listing.proofs.Pages.{fits_last, joined_three}
 use Rattle.listing.proofs.page.put_totals.Goals as goal
 
 -- the three lines
@@ -18,20 +17,18 @@ last t = line CROSS (kroner t.cross ∷ [])
 pub put-requires : goal.put-requires
 put-requires c =
     let t = c.args.t in
-    let e : c.mark_line.result ≡ right (first t) = search rules in
-    let f : c.naked_line.result ≡ right (next t) = search rules in
-    let g : c.cross_line.result ≡ right (last t) = search rules in
-    let a = written (first t) e c.put-second.ensures in
-    let n = written (next t) f c.put-third.ensures in
-    omega (arith, fits_last (first t) (next t) (last t) c.args.out.now c.requires a n, shown_length (last t) g)
+    let e : c.total.result ≡ first t = search rules in
+    let f : c.total-2.result ≡ next t = search rules in
+    let g : c.total-3.result ≡ last t = search rules in
+    rw g (omega (arith, fits_last (first t) (next t) (last t) c.args.out.now c.requires (rw e at c.put-second.ensures) (rw f at c.put-third.ensures)))
 
 pub returns : goal.returns
 returns c =
     let t = c.args.t in
-    let e : c.mark_line.result ≡ right (first t) = search rules in
-    let f : c.naked_line.result ≡ right (next t) = search rules in
-    let g : c.cross_line.result ≡ right (last t) = search rules in
+    let e : c.total.result ≡ first t = search rules in
+    let f : c.total-2.result ≡ next t = search rules in
+    let g : c.total-3.result ≡ last t = search rules in
     joined_three (first t) (next t) (last t) c.args.out.now c.requires
-    (written (first t) e c.put-second.ensures)
-    (written (next t) f c.put-third.ensures)
-    (written (last t) g c.put.ensures)
+    (rw e at c.put-second.ensures)
+    (rw f at c.put-third.ensures)
+    (rw g at c.put.ensures)

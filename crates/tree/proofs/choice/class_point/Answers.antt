@@ -1,34 +1,34 @@
-use Rattle.std.proofs.Common.{◌≡◌, ◌∙◌, sym, ◌<◌, get_or, arith}
+use Rattle.std.proofs.Common.{◌≡◌, ℕ, arith}
+use borrow.Author.Tests.{eq-eqb, ne_eqb}
+use native.Mathlib.Decide.{ℕ_discrete}
+use Rattle.std.specs.Prelude.{Some, ◌≢◌}
+use Rattle.paper.specs.Records.{root}
+use Rattle.paper.specs.Trees.{Tree}
 use Rattle.paper.specs.Answers.{walk_of}
+use Rattle.tree.specs.Buffers.{parent_in}
 use Rattle.book.proofs.Sound.{sound_book}
-use Rattle.tree.proofs.Book.{valid}
 use Rattle.tree.proofs.Buffers.{row_within}
 use Rattle.tree.proofs.choice.class_point.Goals as goal
 
 pub overflow_sub-points : goal.overflow_sub-points
-overflow_sub-points c = let p = (sound_book _ _ c.requires.0).points (omega arith) in omega arith
+overflow_sub-points c = let p = (sound_book _ _ c.args.book.now.sound).points (omega arith) in omega arith
 
 pub chosen_in-requires : goal.chosen_in-requires
 chosen_in-requires c =
-    let p = (sound_book _ _ c.requires.0).points (omega arith) in
-    (row_within c.args.s.points c.args.s.classes c.args.k c.args.rows.now c.requires.2 c.requires.1, p.most, omega arith)
+    let b = c.args.book.now in
+    let p = (sound_book _ _ b.sound).points (omega arith) in
+    (row_within b.shape.points b.shape.classes c.args.k c.args.rows.now c.requires.1 c.requires.0, p.most, omega arith)
 
--- a child's parent has the smaller number, and a point of the scale
-pub reach_of-reach-requires : goal.reach_of-reach-requires
-reach_of-reach-requires c =
-    let e : (walk_of c.args.book.now c.args.s).tree.parent c.args.k ≡ c.class_at-parent.result.parent = rw c.class_at-parent.ensures in
-    let b = (valid _ _ c.requires.0).before c.args.k c.requires.1 (λ r. c.if-parent.false (sym e ∙ r)) in
-    (c.requires.0, omega arith)
+-- a parent that stands there is the number in the record, and no root's
+child : (t : Tree) (k a : ℕ) → Some a ≡ parent_in t k → (t.parent k ≢ root) × (t.parent k ≡ a)
+child t k a e = elim (ℕ_discrete (t.parent k) root) [
+  | yes r ↦ let n = rw (eq-eqb (t.parent k) root r) at e in absurd (grind arith)
+  | no r ↦ let s = rw (ne_eqb (t.parent k) root r) at e in (r, grind arith)
+]
 
-pub bounds-choice-above : goal.bounds-choice-above
-bounds-choice-above c =
-    let e : (walk_of c.args.book.now c.args.s).tree.parent c.args.k ≡ c.class_at-parent.result.parent = rw c.class_at-parent.ensures in
-    let b = (valid _ _ c.requires.0).before c.args.k c.requires.1 (λ r. c.if-parent.false (sym e ∙ r)) in
-    omega arith
-
-pub chosen_in-requires-else-parent : goal.chosen_in-requires-else-parent
-chosen_in-requires-else-parent c =
-    let p = (sound_book _ _ c.requires.0).points (omega arith) in
-    let e : (walk_of c.args.book.now c.args.s).tree.parent c.args.k ≡ c.class_at-parent.result.parent = rw c.class_at-parent.ensures in
-    let h : get_or c.args.choice.now c.class_at-parent.result.parent 0 < c.args.s.points = rw (← e) (c.requires.4 (λ r. c.if-parent.false (sym e ∙ r))) in
-    (row_within c.args.s.points c.args.s.classes c.args.k c.args.rows.now c.requires.2 c.requires.1, p.most, h)
+pub chosen_in-requires-in-Some : goal.chosen_in-requires-in-Some
+chosen_in-requires-in-Some c =
+    let b = c.args.book.now in
+    let p = (sound_book _ _ b.sound).points (omega arith) in
+    let e = child (walk_of b.bytes.now b.shape).tree c.args.k c.in-Some.above c.in-Some.ensures in
+    (row_within b.shape.points b.shape.classes c.args.k c.args.rows.now c.requires.1 c.requires.0, p.most, rw e.1 at (c.requires.3 e.0))

@@ -1,7 +1,7 @@
 use Rattle.std.proofs.Common.{◌∙◌, ◌-◌, ◌*◌, arith}
 use native.Mathlib.Nat.{add-sub_cancel_left}
 use Rattle.amount.proofs.Ints.{back}
-use Rattle.amount.proofs.Lowest.{lowest_cong}
+use Rattle.amount.proofs.Worst.{lowest_cong}
 use Rattle.tree.proofs.Buffers.{part_length, part_at}
 use Rattle.tree.proofs.row.lowest_in.Goals as goal
 
