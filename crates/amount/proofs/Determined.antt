@@ -4,6 +4,9 @@ use Rattle.paper.proofs.Fault.code.Reads as fault-code-reads
 use Rattle.paper.proofs.ResultTotalsRefusalNumbers.code.Reads as answer-code-reads
 use Rattle.paper.proofs.ResultTotalsRefusalNumbers.place.Reads as answer-place-reads
 use Rattle.paper.proofs.ResultTotalsRefusalNumbers.totals.Reads as answer-totals-reads
+use Rattle.paper.proofs.Class.above.Reads as above-reads
+use Rattle.paper.proofs.Position.bought.Reads as bought-reads
+use Rattle.paper.proofs.Position.traded_today.Reads as traded-today-reads
 use Rattle.paper.proofs.Totals.none.Reads as none_reads
 use Rattle.paper.proofs.Totals.with_mark.Reads as with-mark-reads
 use Rattle.paper.proofs.Totals.with_naked.Reads as with-naked-reads
@@ -60,3 +63,12 @@ lowest κs a x y e f = coincide
 
 nearest : OneResult nearest-reads.Post
 nearest κs a x y e f = coincide
+
+above : OneResult above-reads.Post
+above κs a x y e f = coincide
+
+bought : OneResult bought-reads.Post
+bought κs a x y e f = coincide
+
+traded_today : OneResult traded-today-reads.Post
+traded_today κs a x y e f = coincide

@@ -13,9 +13,6 @@ const MOST_INSTRUMENTS: usize = 64;
 
 const MOST_POSITIONS: usize = 256;
 
-// The parent number of a class that has none.
-const ROOT: u16 = 65_535;
-
 // The record that is read, and the shape of those before it.
 #[derive(Clone, Copy)]
 pub struct Next<'a> {
@@ -73,10 +70,10 @@ impl Next<'_> {
         ensures { result ≡ reference_fault self.now.this.book.now self.now.this.number self.now.before }
     {
         match self.this.kind() {
-            Some(Kind::Class) => {
-                let parent = self.this.class().parent;
-                !((parent == ROOT) | ((parent as usize) < self.before.classes))
-            }
+            Some(Kind::Class) => match self.this.class().above() {
+                Some(parent) => !((parent as usize) < self.before.classes),
+                None => false,
+            },
             Some(Kind::Instrument) => {
                 !((self.this.instrument().class as usize) < self.before.classes)
             }

@@ -58,7 +58,8 @@ fn next<R: Read>(from: &mut R, buffer: &mut [u8], whole: usize) -> io::Result<Op
     }
 }
 
-// Reads an input to its end, keeping what the buffer holds and counting the rest. One that goes on and on can't be read.
+// Reads an input to its end, keeping what the buffer holds and counting the rest. One that goes on and on can't be read. Any slice of
+// the length will do: an array would be narrower.
 pub fn read<'a, R: Read>(from: &mut R, buffer: &'a mut [u8]) -> io::Result<Kept<'a>>
     requires { length buffer.old ≡ kept_bytes }
     ensures read { IfOk result (λ k. ReadTo (R.remaining from.old) (R.remaining from.new) k.bytes.now k.whole) }

@@ -1,4 +1,4 @@
-// An amount in whole øre as text, in kroner with two decimals, and back.
+// An amount in whole øre as text, in kroner with two decimals, and back. No `Display`: the contract gives each byte.
 #![tactic(auto)]
 
 ghost use Rattle.std.specs.Prelude.{◌≡◌, [], ◌∷◌, ◌/◌};

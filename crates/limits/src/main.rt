@@ -11,7 +11,6 @@ fn main(rt: HostRuntime) {
     products(&rt);
     instruments(&rt);
     positions(&rt);
-    trades(&rt);
     reserves(&rt);
     letters(&rt);
     two_faults(&rt);
@@ -233,9 +232,6 @@ fn positions(out: &impl Print) {
         1_000_000,
         1_000_001,
     );
-}
-
-fn trades(out: &impl Print) {
     sides(out, b"position 0 traded", at(5, 12, 1), 0, 2);
     sides(out, b"position 0 instrument", at(5, 2, 2), 2, 3);
     sides(out, b"position 3 carried price", at(8, 8, 4), 0, 1);

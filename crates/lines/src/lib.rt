@@ -45,7 +45,7 @@ fn joined(fields: &[Text]) -> Text
     }
 }
 
-// A total's line: the tag and the amount.
+// A total's line: the tag and the amount. Here and below the tag is of any bytes, so a type of tags would be narrower.
 pub fn total(tag: &[u8], z: i64) -> Text
     requires { length tag.now ≤ 8 }
     ensures { result ≡ line tag.now (kroner_of z ∷ []) }

@@ -1,9 +1,9 @@
 -- The lines of the figures and of the choice handed back are the listing of a sound book. Assumes nothing.
 use Rattle.std.specs.Prelude.{Ok, Some}
 use Rattle.paper.specs.Refusals.{Verdict}
-use mathlib.Core.Path.{◌≡◌, refl, ap, ap₂, ◌∙◌}
-use mathlib.Core.List.{List, [], ◌∷◌, ◌++◌}
-use Prim.Native.Nat.{ℕ, zero, suc, ◌+◌, ◌*◌, ◌≤◌, ◌<◌}
+use mathlib.Core.Path.{◌≡◌, ap, ◌∙◌}
+use mathlib.Core.List.{List, [], ◌∷◌}
+use Prim.Native.Nat.{ℕ, ◌+◌, ◌*◌, ◌≤◌, ◌<◌}
 use native.Mathlib.Nat.{mul-le-mul}
 use native.Mathlib.Omega.{arith}
 use borrow.Author.Tests.{lt-ltb, le-ltb}
@@ -13,18 +13,14 @@ use Rattle.paper.specs.declared.Shape.{Shape}
 use Rattle.paper.specs.declared.Totals.{Totals}
 use Rattle.paper.specs.Refusals.{verdict_of, verdict_on}
 use Rattle.paper.specs.Answers.{walk_of, figures, totals_given, choice_on, choice_for, choice_after, class_point}
-use Rattle.paper.specs.Listing.{decimal, line, CLASS, lines, class_line, item_line, listing_for}
+use Rattle.paper.specs.Listing.{decimal, line, CLASS, class_line, item_line, listing_for}
 use Rattle.book.proofs.Sound.{sound_book}
 use Rattle.margin.specs.Items.{item_of}
 use Rattle.margin.specs.Run.{Ran}
 use Rattle.margin.proofs.Shapes.{points_most}
 use Rattle.margin.proofs.Promises.{class_read, item_read}
 use Rattle.listing.specs.Page.{class_in, item_text, item_in, figure_lines}
-
-lines_cong : (n : ℕ) {f g : ℕ → List ℕ} → ((k : ℕ) → k < n → f k ≡ g k) → lines n f ≡ lines n g
-unfolding lines
-lines_cong zero e = refl
-lines_cong (suc n) e = ap₂ ◌++◌ (lines_cong n (λ k h. e k (omega arith))) (e n (omega arith))
+use Rattle.listing.proofs.Pages.{lines_cong}
 
 -- the working buffers of the listing are long enough for every book
 pub enough : (b : List ℕ) (s : Shape) (rows choice : ℕ) → verdict_of b ≡ Ok s → 24 * 201 ≤ rows → 88 ≤ choice → verdict_on b rows choice ≡ Ok s

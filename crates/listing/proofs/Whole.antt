@@ -1,5 +1,6 @@
 -- From the verdict on what was kept to the listing of the whole book, and that its text always fits. Assumes nothing.
 use Rattle.std.specs.Prelude.{Ok, Err, Option, None, Some}
+use Rattle.std.specs.Option.{unwrap_or}
 use Rattle.paper.specs.Refusals.{Verdict, refused}
 use mathlib.Core.Path.{◌≡◌, refl, sym, ap, ◌∙◌}
 use mathlib.Core.List.{List, ◌++◌}
@@ -16,12 +17,11 @@ use Rattle.paper.specs.Refusals.{verdict_of}
 use Rattle.paper.specs.Answers.{code_of}
 use Rattle.paper.specs.Listing.{listing_for, listing_of}
 use Rattle.book.proofs.Verdicts.{refused_out, length_out, same_refused}
-use Rattle.margin.specs.Counted.{KeptOf, CountedVerdict}
+use Rattle.margin.specs.Counted.{CountedVerdict}
 use Rattle.margin.proofs.Answers.{same_fault}
 use Rattle.margin.proofs.Promises.{no_refusal}
 use Rattle.margin.proofs.Counted.{by_book, counted_sound, counted_read}
-use Rattle.listing.specs.Page.{Added, refused_line, most, Printed, Listed}
-use Rattle.listing.proofs.Pages.{too_short, printed}
+use Rattle.listing.specs.Page.{refused_line, most, Printed, Listed}
 use Rattle.listing.proofs.Lengths.{refused_short, sound_short}
 
 -- a refusal's place is a record or the number of records
@@ -42,39 +42,30 @@ listing_short b h = by (verdict_of b) refl
     by (Ok s) e = sound_short b s e
     by (Err r) e = refused_short r.fault r.place (omega (arith, place_most b r.fault r.place e))
 
-module _ (kept : List ℕ) (size : ℕ) (out : List ℕ) (few : size < 2 ^ 64) where
-  book_short : (b : List ℕ) → KeptOf b kept size → length (listing_of b) ≤ most
-  book_short b of = listing_short b (omega (arith, of.counted))
+-- what is printed is the listing of every book that was so kept and counted
+module _ (kept : List ℕ) (size : ℕ) (out : List ℕ) {page : Option ℕ} {out' : List ℕ} where
+  pub listed_sound : (s : Shape) → CountedVerdict kept size (Ok s) → Printed (listing_for kept (Ok s)) out page out' → Listed kept size out page out'
+  unfolding listing_of listing_for
+  listed_sound s v a = record {
+    of_book = λ b of.
+        let e : listing_for kept (Ok s) ≡ listing_of b = ap (listing_for kept) (sym (counted_sound kept size s v)) ∙ counted_read kept size s v listing_for (λ b c g place. refl) b of in
+        rw e at a;
+    of_none = λ none. absurd (no_refusal (sym (v.of_none none)));
+  }
 
-  none_short : length (refused_line (code_of Length) (size / record_bytes)) ≤ most
-  none_short = refused_short Length (size / record_bytes) (omega arith)
-
-  pub listed_short : length out < most → Listed kept size out None out
-  listed_short h = record { of_book = λ b of. too_short (listing_of b) out (book_short b of) h; of_none = λ none. too_short _ out none_short h }
-
-  module _ (h : most ≤ length out) {r : ℕ} {out' : List ℕ} where
-    pub listed_sound : (s : Shape) → CountedVerdict kept size (Ok s) → Added out 0 (listing_for kept (Ok s)) r out' → Listed kept size out (Some r) out'
-    unfolding listing_of listing_for
-    listed_sound s v a = record {
-      of_book = λ b of.
-          let e : listing_for kept (Ok s) ≡ listing_of b = ap (listing_for kept) (sym (counted_sound kept size s v)) ∙ counted_read kept size s v listing_for (λ b c g place. refl) b of in
-          printed (listing_of b) out (book_short b of) h (rw e at a);
-      of_none = λ none. absurd (no_refusal (sym (v.of_none none)));
-    }
-
-    pub listed_refused : (f : Fault) (place : ℕ) → CountedVerdict kept size (refused f place) → Added out 0 (refused_line (code_of f) place) r out' → Listed kept size out (Some r) out'
-    unfolding listing_of listing_for
-    listed_refused f place v a = record {
-      of_book = λ b of.
-          let e : refused_line (code_of f) place ≡ listing_of b = ap (listing_for b) (v.of_book b of) in
-          printed (listing_of b) out (book_short b of) h (rw e at a);
-      of_none = λ none.
-          let q : refused f place ≡ refused Length (size / record_bytes) = v.of_none none in
-          let same = same_refused Length f place (size / record_bytes) q in
-          let e : f ≡ Length = same.0 in
-          let g : place ≡ size / record_bytes = same.1 in
-          printed _ out none_short h (rw (e, g) at a);
-    }
+  pub listed_refused : (f : Fault) (place : ℕ) → CountedVerdict kept size (refused f place) → Printed (refused_line (code_of f) place) out page out' → Listed kept size out page out'
+  unfolding listing_of listing_for
+  listed_refused f place v a = record {
+    of_book = λ b of.
+        let e : refused_line (code_of f) place ≡ listing_of b = ap (listing_for b) (v.of_book b of) in
+        rw e at a;
+    of_none = λ none.
+        let q : refused f place ≡ refused Length (size / record_bytes) = v.of_none none in
+        let same = same_refused Length f place (size / record_bytes) q in
+        let e : f ≡ Length = same.0 in
+        let g : place ≡ size / record_bytes = same.1 in
+        rw (e, g) at a;
+  }
 
 -- the program's buffer is never too short, and what was written lies within it
 module _ {s out : List ℕ} {out' : List ℕ} where
@@ -93,8 +84,12 @@ module _ {s out : List ℕ} {out' : List ℕ} where
       ap length e ∙ length-append s (drop (length s) out) ∙ rw (length-drop (length s) out) (omega (arith, p.fits))
 
 module _ (kept : List ℕ) (size : ℕ) (out out' : List ℕ) (h : most ≤ length out) where
-  pub never_short : Listed kept size out None out' → ⊥
+  never_short : Listed kept size out None out' → ⊥
   never_short l = by_book kept size (λ b of. is_short h (l.of_book b of)) (λ none. is_short h (l.of_none none))
+
+  pub unwrapped : (page : Option ℕ) → Listed kept size out page out' → Listed kept size out (Some (unwrap_or page 0)) out'
+  unwrapped (Some n) l = l
+  unwrapped None l = absurd (never_short l)
 
   pub within : (n : ℕ) → Listed kept size out (Some n) out' → n ≤ most
   within n l = by_book kept size (λ b of. is_within h (l.of_book b of)) (λ none. is_within h (l.of_none none))

@@ -1,5 +1,5 @@
 -- A listing written into a buffer, and its lines as the choice buffer has them.
-use Rattle.std.specs.Prelude.{◌≡◌, cond, List, [], ◌∷◌, ◌++◌, ℕ, ◌+◌, ◌*◌, ◌/◌, ◌≤◌, ltb, ℤ, length, take, drop, Option, None, Some, Ok, Err}
+use Rattle.std.specs.Prelude.{◌≡◌, cond, List, [], ◌∷◌, ◌++◌, ℕ, ◌+◌, ◌*◌, ◌/◌, ◌≤◌, ltb, ℤ, length, get_or, drop, Option, None, Some, Ok, Err}
 use Rattle.paper.specs.declared.Shape.{Shape}
 use Rattle.paper.specs.declared.Totals.{Totals}
 use Rattle.paper.specs.declared.Fault.TheVariants.{Length}
@@ -11,12 +11,6 @@ use Rattle.words.specs.Words.{refusal_line}
 use Rattle.margin.specs.Items.{item_of}
 use Rattle.margin.specs.Counted.{Counted}
 
--- a text s was written into the buffer from `at` on and ends at r; all else is as it was
-pub record Added (out : List ℕ) (at : ℕ) (s : List ℕ) (r : ℕ) (out' : List ℕ) : Type 0 where
-  pub next : r ≡ at + length s
-  pub same : length out' ≡ length out
-  pub holds : out' ≡ take at out ++ s ++ drop r out
-
 -- the line of class k, with its point in the choice buffer
 abbrev pub class_in : List ℕ → ℕ → List ℕ
 class_in choice k = line CLASS (decimal k ∷ decimal (class_point choice k) ∷ [])
@@ -25,6 +19,10 @@ class_in choice k = line CLASS (decimal k ∷ decimal (class_point choice k) ∷
 abbrev pub item_text : ℕ → ℕ → Option ℤ → List ℕ
 item_text i point (Some z) = line ITEM (decimal i ∷ decimal point ∷ kroner z ∷ [])
 item_text i point None = []
+
+-- the line of instrument i, with its point among the instruments'
+abbrev pub item_by : List ℕ → List ℕ → ℕ → List ℕ
+item_by b points i = let point = get_or points i 0 in item_text i point (item_of b i point)
 
 -- the line of instrument i, with its point in the choice buffer after those of the classes
 abbrev pub item_in : List ℕ → List ℕ → ℕ → ℕ → List ℕ

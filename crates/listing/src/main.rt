@@ -25,7 +25,7 @@ enum Failure {
 fn list<W: Write>(to: &mut W, read: Kept) -> io::Result<()>
     ensures { OnOk result (Handed read.entry.bytes.now read.entry.whole (W.contents to.old) (W.contents to.new)) }
 {
-    let mut out = [0u8; 2570];
+    let mut out = [0u8; page::ROOM];
     let n = page::whole_listing(read, &mut out);
     to.write_all(&out[..n])
 }

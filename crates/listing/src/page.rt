@@ -1,16 +1,20 @@
 // The whole evening listing of a book, in a buffer that the caller lends.
-ghost use Rattle.std.specs.Prelude.{◌≡◌, Ok, Some, [], ◌∷◌, ◌+◌, ◌≤◌, length};
+ghost use Rattle.std.specs.Prelude.{◌≡◌, Ok, Some, [], ◌∷◌, ◌++◌, ◌+◌, ◌≤◌, length};
 ghost use Rattle.paper.specs.Records.{rank};
 ghost use Rattle.paper.specs.Answers.{code_of};
 ghost use Rattle.paper.specs.Listing.{decimal, kroner as kroner_of, line, lines as lines_of, CLASS, ITEM, total_lines, listing_for};
 ghost use Rattle.margin.specs.Items.{item_of};
-ghost use Rattle.listing.specs.Page.{Added, class_in, item_text, item_in, figure_lines, refused_line, most, Listed, kind_kept, Explained};
+ghost use Rattle.listing.specs.Page.{class_in, item_text, item_by, figure_lines, refused_line, most, Printed, Listed, kind_kept, Explained};
 
 use book::SoundBook;
 use intake::Kept;
 use paper::{Kind, Numbers, Refusal, Shape, Totals};
 use record::Record;
+use std::marker::Model;
 use text::Text;
+
+// Every listing fits in so many bytes.
+pub const ROOM: usize = 2570;
 
 fn class_line(k: usize, point: u16) -> Text
     ensures { result ≡ line CLASS (decimal k ∷ decimal point ∷ []) }
@@ -30,113 +34,150 @@ fn refused_line(refusal: Refusal) -> Text
     lines::numbers(b"REFUSED", refusal.fault.code(), refusal.place as u64)
 }
 
-// Writes a text into the buffer from a place on, and hands back its end.
-fn put(out: &mut [u8], at: usize, t: Text) -> usize
-    requires { at + length t ≤ length out.old }
-    ensures { Added out.old at t result out.new }
-{
-    let bytes = t.as_bytes();
-    let end = at + bytes.len();
-    out[at..end].copy_from_slice(bytes);
-    end
+// A listing as it is written. Contracts see it as the list of the bytes so far. Memory is fixed here: nothing of this project
+// takes any from a heap.
+#[derive(Drop)]
+struct Page {
+    bytes: [u8; ROOM],
+    end: usize,
 }
 
-// The three totals.
-fn put_totals(out: &mut [u8], t: Totals) -> usize
-    requires { length (total_lines t) ≤ length out.old }
-    ensures { Added out.old 0 (total_lines t) result out.new }
-{
-    let second = put(out, 0, lines::total(b"MTM", t.mark));
-    let third = put(out, second, lines::total(b"NAKED", t.naked));
-    put(out, third, lines::total(b"CROSS", t.cross))
+impl Model for Page {
+    ghost use Rattle.std.specs.Prelude.{List, ℕ, ◌≤◌, take};
+    ghost use Rattle.listing.specs.Page.{most};
+
+    ghost Value = { List ℕ };
+
+    ghost view = { λ p. take p.end p.bytes };
+
+    ghost invariant = { λ p. p.end ≤ most };
 }
 
-// A line a class, with its point.
-fn put_classes(out: &mut [u8], at: usize, choice: &[u16], n: usize) -> usize
-    requires { (at + length (lines_of n (class_in choice.now)) ≤ length out.old) × (n ≤ length choice.now) }
-    ensures { Added out.old at (lines_of n (class_in choice.now)) result out.new }
-{
-    let mut to = at;
-    for k in 0..n {
-        to = put(out, to, class_line(k, choice[k]));
+impl Page {
+    fn empty() -> Page
+        ensures { result ≡ [] }
+    {
+        Page {
+            bytes: [0; ROOM],
+            end: 0,
+        }
     }
-    to
-}
 
-// The line of instrument i, with its amount at its point.
-fn put_item(out: &mut [u8], at: usize, book: &[u8], i: usize, point: u16) -> usize
-    requires { at + length (item_text i point (item_of book.now i point)) ≤ length out.old }
-    ensures { Added out.old at (item_text i point (item_of book.now i point)) result out.new }
-{
-    match margin::item_at(book, i, point as usize) {
-        Some(z) => put(out, at, item_line(i, point, z)),
-        None => at,
+    // Writes a text behind what stands there.
+    fn put(&mut self, t: Text)
+        requires { length self.old + length t ≤ most }
+        ensures { self.new ≡ self.old ++ t }
+    {
+        let bytes = t.as_bytes();
+        let from = self.end;
+        let end = from + bytes.len();
+        self.bytes[from..end].copy_from_slice(bytes);
+        self.end = end;
     }
-}
 
-// A line an instrument: their points stand after the classes'. Which text a line has differs, not a type or a size.
-fn put_items(
-    out: &mut [u8],
-    at: usize,
-    book: &[u8],
-    choice: &[u16],
-    classes: usize,
-    n: usize,
-) -> usize
-    requires { (at + length (lines_of n (item_in book.now choice.now classes)) ≤ length out.old) × (classes + n ≤ length choice.now) }
-    ensures { Added out.old at (lines_of n (item_in book.now choice.now classes)) result out.new }
-{
-    let mut to = at;
-    for i in 0..n {
-        to = put_item(out, to, book, i, choice[classes + i]);
+    // The three totals.
+    fn put_totals(&mut self, t: Totals)
+        requires { length self.old + length (total_lines t) ≤ most }
+        ensures { self.new ≡ self.old ++ total_lines t }
+    {
+        self.put(lines::total(b"MTM", t.mark));
+        self.put(lines::total(b"NAKED", t.naked));
+        self.put(lines::total(b"CROSS", t.cross));
     }
-    to
-}
 
-// The figures of an accepted book, with the choice that stands in the buffer.
-fn put_figures(out: &mut [u8], book: &[u8], s: Shape, t: Totals, choice: &[u16]) -> usize
-    requires { (length (figure_lines book.now s t choice.now) ≤ length out.old) × (s.classes + s.instruments ≤ length choice.now) }
-    ensures { Added out.old 0 (figure_lines book.now s t choice.now) result out.new }
-{
-    let first = put_totals(out, t);
-    let next = put_classes(out, first, choice, s.classes);
-    put_items(out, next, book, choice, s.classes, s.instruments)
+    // A line a class, with its point.
+    fn put_classes(&mut self, points: &[u16])
+        requires { length self.old + length (lines_of (length points.now) (class_in points.now)) ≤ most }
+        ensures { self.new ≡ self.old ++ lines_of (length points.now) (class_in points.now) }
+    {
+        for (k, &point) in points.iter().enumerate() {
+            self.put(class_line(k, point));
+        }
+    }
+
+    // The line of instrument i, with its amount at its point.
+    fn put_item(&mut self, book: &[u8], i: usize, point: u16)
+        requires { length self.old + length (item_text i point (item_of book.now i point)) ≤ most }
+        ensures { self.new ≡ self.old ++ item_text i point (item_of book.now i point) }
+    {
+        if let Some(z) = margin::item_at(book, i, point as usize) {
+            self.put(item_line(i, point, z));
+        }
+    }
+
+    // A line an instrument, with its point. Which text a line has differs from a class's, not a type or a size.
+    fn put_items(&mut self, book: &[u8], points: &[u16])
+        requires { length self.old + length (lines_of (length points.now) (item_by book.now points.now)) ≤ most }
+        ensures { self.new ≡ self.old ++ lines_of (length points.now) (item_by book.now points.now) }
+    {
+        for (i, &point) in points.iter().enumerate() {
+            self.put_item(book, i, point);
+        }
+    }
+
+    // The figures of an accepted book, with the choice that stands in the buffer: the classes' points, then the instruments'.
+    fn put_figures(&mut self, book: &[u8], s: Shape, t: Totals, choice: &[u16])
+        requires { (length self.old + length (figure_lines book.now s t choice.now) ≤ most) × (s.classes + s.instruments ≤ length choice.now) }
+        ensures { self.new ≡ self.old ++ figure_lines book.now s t choice.now }
+    {
+        let (classes, rest) = choice.split_at(s.classes);
+        self.put_totals(t);
+        self.put_classes(classes);
+        self.put_items(book, &rest[..s.instruments]);
+    }
+
+    // Copies the page into a buffer, and hands back how many bytes it has there. In a buffer that is too short for some listing
+    // there is none, and nothing is written.
+    fn print(&self, out: &mut [u8]) -> Option<usize>
+        ensures { Printed self.now out.old result out.new }
+    {
+        let written = &self.bytes[..self.end];
+        if out.len() < ROOM {
+            return None;
+        }
+        out[..self.end].copy_from_slice(written);
+        Some(self.end)
+    }
 }
 
 // The listing of a sound book.
-fn put_sound(out: &mut [u8], book: &SoundBook) -> usize
-    requires { most ≤ length out.old }
-    ensures { Added out.old 0 (listing_for book.now.bytes.now (Ok book.now.shape)) result out.new }
+fn sound_page(book: &SoundBook) -> Page
+    ensures { result ≡ listing_for book.now.bytes.now (Ok book.now.shape) }
 {
     let mut rows = [0i64; 4824];
     let mut choice = [0u16; 88];
     let answer = margin::run(book.bytes, &mut rows, &mut choice);
-    put_figures(out, book.bytes, book.shape, answer.totals(), &choice)
+    let mut page = Page::empty();
+    page.put_figures(book.bytes, book.shape, answer.totals(), &choice);
+    page
+}
+
+// The listing of a refused one.
+fn refused_page(refusal: Refusal) -> Page
+    ensures { result ≡ refused_line (code_of refusal.fault) refusal.place }
+{
+    let mut page = Page::empty();
+    page.put(refused_line(refusal));
+    page
 }
 
 // The listing of a book of which the first records were kept, and the bytes of the whole were counted: how many bytes of the
 // buffer it has. In a buffer that is too short for some listing there is none, and nothing is written.
+// The two stay apart: `Listed` speaks of any bytes with any count, so they are no slice with its length.
 pub fn listing(kept: &[u8], size: usize, out: &mut [u8]) -> Option<usize>
     ensures { Listed kept.now size out.old result out.new }
 {
-    if out.len() < 2570 {
-        return None;
-    }
     match margin::scan_counted(kept, size) {
-        Ok(shape) => Some(put_sound(out, &SoundBook { bytes: kept, shape })),
-        Err(refusal) => Some(put(out, 0, refused_line(refusal))),
+        Ok(shape) => sound_page(&SoundBook { bytes: kept, shape }).print(out),
+        Err(refusal) => refused_page(refusal).print(out),
     }
 }
 
 // The listing of what was read to its end, in a buffer that every listing fits.
-pub fn whole_listing(read: Kept, out: &mut [u8; 2570]) -> usize
+pub fn whole_listing(read: Kept, out: &mut [u8; ROOM]) -> usize
     ensures { Listed read.entry.bytes.now read.entry.whole out.old (Some result) out.new }
 {
-    let page = listing(read.bytes, read.whole, out);
-    match page {
-        Some(bytes) => bytes,
-        None => 0,
-    }
+    listing(read.bytes, read.whole, out).unwrap_or(0)
 }
 
 // The kind of a record that was kept, and none of any other.
@@ -155,6 +196,7 @@ fn kind_of(kept: &[u8], place: usize) -> Option<Kind>
 }
 
 // What is said of a book so kept and counted: a refusal in words, of a sound one nothing.
+// The two stay apart: `Explained` speaks of any bytes with any count, so they are no slice with its length.
 pub fn reason(kept: &[u8], size: usize) -> Text
     ensures { Explained kept.now size result }
 {

@@ -1,9 +1,9 @@
 -- What was kept of a book, with its length, has the verdict and the run of the whole; and whether there is such a book.
 -- Assumes nothing.
-use Rattle.std.specs.Prelude.{Ok, Err}
+use Rattle.std.specs.Prelude.{Result, Ok, Err}
 use Rattle.paper.specs.Refusals.{Verdict, refused}
 use mathlib.Core.Path.{◌≡◌, refl, sym, ap, subst, ◌∙◌}
-use mathlib.Core.Bool.{true, false}
+use mathlib.Core.Bool.{Bool, true, false, cond}
 use mathlib.Core.List.{List, ◌++◌, append-nil}
 use Prim.Native.Nat.{ℕ, ◌-◌, ◌/◌, ◌%◌, ◌≤◌, min}
 use native.Mathlib.Decide.{ℕ_discrete, dec_lt}
@@ -16,6 +16,7 @@ use lib.Seq.{take_all, take_at}
 use Rattle.paper.specs.declared.Fault.{Fault}
 use Rattle.paper.specs.declared.Fault.TheVariants.{Length}
 use Rattle.paper.specs.declared.Shape.{Shape}
+use Rattle.paper.specs.declared.Refusal.{Refusal}
 use Rattle.paper.specs.declared.Totals.{Totals}
 use Rattle.paper.specs.Records.{record_bytes, whole_records}
 use Rattle.paper.specs.Refusals.{length_fault, verdict_of, verdict_on}
@@ -28,6 +29,15 @@ use Rattle.book.proofs.Kept.{kept}
 use Rattle.margin.specs.Run.{Ran}
 use Rattle.margin.specs.Counted.{KeptOf, OfNoBook, whole_kept, CountedVerdict, CountedRan}
 use Rattle.margin.proofs.Promises.{no_refusal, turned_down}
+
+-- what the test of the two numbers says, passed and not
+pub was_whole : (t : Bool) (r : Refusal) {u : Unit {0}} → ◌≡◌ {A = Result (Unit {0}) Refusal} (Ok u) (cond t (Ok tt) (Err r)) → t ≡ true
+was_whole true r e = refl
+was_whole false r e = absurd (let z : ◌≡◌ {A = ℕ} 0 1 = cc in omega arith)
+
+pub was_torn : (t : Bool) (q r : Refusal) → ◌≡◌ {A = Result (Unit {0}) Refusal} (Err q) (cond t (Ok tt) (Err r)) → (t ≡ false) × (q ≡ r)
+was_torn true q r e = absurd (let z : ◌≡◌ {A = ℕ} 0 1 = cc in omega arith)
+was_torn false q r e = (refl, cc)
 
 -- what a verdict on the kept book means for the whole one: all of it was kept, or both are refused alike
 pub data Alike (b : List ℕ) : Type 0 where

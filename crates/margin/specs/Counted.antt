@@ -1,5 +1,6 @@
 -- A book of which the first records were kept and the bytes counted: its verdict and its run are those of the whole book.
 use Rattle.std.specs.Prelude.{◌≡◌, Bool, ◌&&◌, List, ℕ, ◌/◌, ◌%◌, min, eqb, ℤ, length, take}
+use Rattle.paper.specs.declared.Refusal.{Refusal}
 use Rattle.paper.specs.declared.Totals.{Totals}
 use Rattle.paper.specs.declared.Fault.TheVariants.{Length}
 use Rattle.paper.specs.Records.{record_bytes}
@@ -20,6 +21,10 @@ OfNoBook kept size = (b : List ℕ) → KeptOf b kept size → ⊥
 -- whether so many bytes kept, of so many, are those of a book of whole records
 abbrev pub whole_kept : ℕ → ℕ → Bool
 whole_kept kept size = eqb kept (min kept_bytes size) && eqb (size % record_bytes) 0
+
+-- and the refusal where they are not: a faulty length, with the whole records counted as place
+abbrev pub torn : ℕ → Refusal
+torn size = record { fault = Length; place = size / record_bytes }
 
 -- what holds of every book that was so kept and counted, and what holds where there is none
 pub record Counted (kept : List ℕ) (size : ℕ) (P : List ℕ → Type 0) (none : Type 0) : Type 0 where

@@ -1,15 +1,16 @@
 // The one call of the desk: a book and two buffers in, the answer and the figures out. Nothing is to be checked first.
 #![tactic(auto)]
 
-ghost use Rattle.std.specs.Prelude.{◌≡◌, Ok, ◌+◌, ◌*◌, ◌≤◌, length};
+ghost use Rattle.std.specs.Prelude.{◌≡◌, cond, Ok, Err, ◌+◌, ◌*◌, ◌≤◌, length};
 ghost use Rattle.paper.specs.Refusals.{verdict_on, with_room};
 ghost use Rattle.paper.specs.Answers.{answer_code, answer_place, answer_totals};
 ghost use Rattle.margin.specs.Run.{Ran, Figured};
-ghost use Rattle.margin.specs.Counted.{whole_kept, CountedVerdict, CountedRan};
+ghost use Rattle.margin.specs.Counted.{whole_kept, torn, CountedVerdict, CountedRan};
 ghost use Rattle.margin.specs.Items.{item_for, item_of, item_mark_for, item_mark_of};
 
 use book::SoundBook;
 use paper::{Fault, Refusal, Shape, Totals};
+use tree::HeldRows;
 use vector::Item;
 
 // The two tests of the buffers' lengths, in their order.
@@ -49,9 +50,12 @@ fn figures(book: &SoundBook, rows: &mut [i64], choice: &mut [u16]) -> Totals
     let marked = vector::marks(book, Totals::none());
     let bare = vector::nakeds(book, marked);
     tree::fill_rows(book, rows);
-    let totals = tree::cross(book, rows, bare);
-    tree::choose(book, rows, choice);
-    totals
+    let held = HeldRows {
+        book: *book,
+        cells: rows,
+    };
+    held.choose(choice);
+    held.cross(bare)
 }
 
 // The run of a book.
@@ -63,11 +67,18 @@ pub fn run(book: &[u8], rows: &mut [i64], choice: &mut [u16]) -> Result<Totals, 
     Ok(figures(&sound, rows, choice))
 }
 
-// Whether so many bytes kept, of so many, are those of a book of whole records.
-fn whole(kept: usize, size: usize) -> bool
-    ensures { result ≡ whole_kept kept size }
+// That so many bytes kept, of so many, are those of a book of whole records. What is cut, or is of no book, has a faulty length.
+fn whole(kept: usize, size: usize) -> Result<(), Refusal>
+    ensures { result ≡ cond (whole_kept kept size) (Ok tt) (Err (torn size)) }
 {
-    (kept == size.min(11_040)) & (size % 32 == 0)
+    if (kept == size.min(11_040)) & (size % 32 == 0) {
+        Ok(())
+    } else {
+        Err(Refusal {
+            fault: Fault::Length,
+            place: size / 32,
+        })
+    }
 }
 
 // The verdict on a book of which the first 345 records were kept, and the bytes of the whole were counted. Bytes and a number
@@ -76,17 +87,11 @@ fn whole(kept: usize, size: usize) -> bool
 pub fn scan_counted(kept: &[u8], size: usize) -> Result<Shape, Refusal>
     ensures { CountedVerdict kept.now size result }
 {
-    if whole(kept.len(), size) {
-        book::scan(kept)
-    } else {
-        Err(Refusal {
-            fault: Fault::Length,
-            place: size / 32,
-        })
-    }
+    whole(kept.len(), size)?;
+    book::scan(kept)
 }
 
-// The run of such a book. What was cut has no figures.
+// The run of such a book. What was cut has no figures. The bytes and the number are apart, as above.
 pub fn run_counted(
     kept: &[u8],
     size: usize,
@@ -95,14 +100,8 @@ pub fn run_counted(
 ) -> Result<Totals, Refusal>
     ensures { CountedRan kept.now size rows.old choice.old (answer_code result) (answer_place result) (answer_totals result) rows.new choice.new }
 {
-    if whole(kept.len(), size) {
-        run(kept, rows, choice)
-    } else {
-        Err(Refusal {
-            fault: Fault::Length,
-            place: size / 32,
-        })
-    }
+    whole(kept.len(), size)?;
+    run(kept, rows, choice)
 }
 
 // An item of a sound book, where it has such an item and such a point.

@@ -55,6 +55,10 @@ class_at b r = record { parent = le16 b r 2; points = le16 b r 4; share = le16 b
 abbrev pub root : ℕ
 root = 65535
 
+-- the class above, where there is one
+abbrev pub above : Class → Option ℕ
+above c = cond (eqb c.parent root) None (Some c.parent)
+
 -- "I: 1; 2-3; 4-5: product; class; days. 8-11; 12-15; 16-19; 20-23: fixing today; fixing before; Par; Adj"
 unfoldable pub instrument_at : List ℕ → ℕ → Instrument
 instrument_at b r = record {

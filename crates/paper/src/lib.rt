@@ -4,19 +4,19 @@
 ghost use Rattle.std.specs.Prelude.{◌≡◌, ℤ, pos, ◌+ℤ◌};
 ghost use Rattle.std.specs.Int.{w64};
 ghost use Rattle.std.proofs.Common.{SFits};
-ghost use Rattle.paper.specs.Records.{bought, traded_today};
+ghost use Rattle.paper.specs.Records.{above, bought, traded_today};
 ghost use Rattle.paper.specs.Refusals.{product_of};
 ghost use Rattle.paper.specs.Answers.{code_of, answer_code, answer_place, answer_totals, no_totals, add_mark, add_naked, add_cross};
 
 // What an instrument is, by its product's number.
 #[derive(Clone, Copy, Debug, PartialEq, Eq)]
 pub enum Product {
-    Fra = 1,
-    Future = 2,
-    Bond = 3,
+    Fra,
+    Future,
+    Bond,
 }
 
-// A number that is of no product is out of its range.
+// The table of the numbers, which stands once: a number that is of no product is out of its range.
 impl TryFrom<u8> for Product {
     type Error = Fault;
 
@@ -32,12 +32,27 @@ impl TryFrom<u8> for Product {
     }
 }
 
+// What a root's record has in the place of its parent.
+const ROOT: u16 = 65_535;
+
 // A class record's fields.
 #[derive(Clone, Copy)]
 pub struct Class {
     pub parent: u16,
     pub points: u16,
     pub share: u16,
+}
+
+impl Class {
+    // The number of the class above, where there is one: a root gives the highest number.
+    pub fn above(self) -> Option<u16>
+        ensures { result ≡ above self }
+    {
+        match self.parent {
+            ROOT => None,
+            parent => Some(parent),
+        }
+    }
 }
 
 // An instrument record's fields. Yields, prices, Par and Adj are signed from the reader on. The product is the byte that stands in the
@@ -175,7 +190,7 @@ impl Numbers for Result<Totals, Refusal> {
 
 // The running totals, in whole øre: each method takes them by value and hands them back with one amount more, in a field of its own,
 // which no parameter can name.
-#[derive(Clone, Copy)]
+#[derive(Clone, Copy, Default)]
 pub struct Totals {
     pub mark: i64,
     pub naked: i64,
@@ -186,11 +201,7 @@ impl Totals {
     pub fn none() -> Totals
         ensures { result ≡ no_totals }
     {
-        Totals {
-            mark: 0,
-            naked: 0,
-            cross: 0,
-        }
+        Totals::default()
     }
 
     pub fn with_mark(self, amount: i64) -> Totals

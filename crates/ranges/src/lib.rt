@@ -9,7 +9,7 @@ ghost use Rattle.ranges.specs.Limits.{holds as holds_of, limits_of, instrument_h
 
 use paper::{Class, Fault, Instrument, Position, Product};
 
-// A range: its lower end and its upper.
+// A range: its lower end and its upper. The library's `RangeInclusive` is an iterator, and so no plain value that is copied.
 #[derive(Clone, Copy)]
 struct Span(i64, i64);
 
@@ -115,7 +115,7 @@ fn position_holds(p: Position, l: Limits) -> bool
         & carried_fits(p)
 }
 
-// The product is the byte of the instrument named, as its record has it.
+// The product is the byte of the instrument named, as its record has it: of any byte there is an answer.
 pub fn position_finding(p: Position, product: u8) -> Result<(), Fault>
     ensures { result ≡ cond (position_fits p product) (Ok tt) (Err Range) }
 {

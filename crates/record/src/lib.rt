@@ -8,7 +8,7 @@ ghost use Rattle.paper.specs.Refusals.{zeros as zeros_of, reserved_zero};
 
 use paper::{Class, Instrument, Kind, Position};
 
-// A record by its number, which lies within the book.
+// A record by its number, which lies within the book. Not 32 bytes of their own: the definitions speak of record r of a book.
 #[derive(Clone, Copy)]
 pub struct Record<'a> {
     pub book: &'a [u8],

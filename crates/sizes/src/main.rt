@@ -177,6 +177,7 @@ fn two_faults(out: &impl Print) {
     faults(out, b"order and limit", filled(of(24, 2, 0)), 25, 0, 67);
 }
 
+// The bytes and the number are apart, as the call takes them.
 fn answer_counted(kept: &[u8], size: usize) -> Result<Totals, Refusal> {
     let mut rows = [0i64; 72];
     let mut choice = [0u16; 88];

@@ -8,9 +8,10 @@ use native.Mathlib.Decide.{dec_lt}
 use lib.IntN.{ℤ, pos, ◌+ℤ◌}
 use lib.ListN.{length, replicate, length-replicate, get_or-replicate, take, drop, get_or, length-append, length-drop, take-append-drop, get_or-append}
 use lib.Seq.{length-take-le, take_at, drop_at, get_or-append-add, drop-append-add, get_or-take, get_or-drop, drop-drop, ext_get_or}
-use Rattle.paper.specs.Sums.{listed}
+use Rattle.paper.specs.Sums.{listed, lowest}
 use Rattle.paper.specs.Windows.{lowest_near}
 use Rattle.amount.proofs.Lists.{row_end, listed_length, listed_at}
+use Rattle.amount.proofs.Worst.{lowest_cong}
 use Rattle.window.specs.Slides.{entry_of, slid_at, slid}
 use Rattle.window.proofs.Near.{near_cong}
 use Rattle.tree.specs.Buffers.{rows_in, RowWithin, part_of, with_row}
@@ -34,6 +35,10 @@ first_listed p f work rest e = rw e (take_at (listed p f) rest p (listed_length 
 -- the lowest entry within reach, in the list of a function's values
 pub near_listed : (p : ℕ) (f : ℕ → ℤ) (r x : ℕ) → x < p → lowest_near p (entry_of (listed p f)) r x ≡ lowest_near p f r x
 near_listed p f r x h = near_cong p r x h (λ y l. listed_at p y f (pos 0) l)
+
+-- the lowest entry of a whole list of them
+pub lowest_listed : (p : ℕ) (f : ℕ → ℤ) → 0 < p → lowest (entry_of (listed p f)) 0 (length (listed p f) - 1) ≡ lowest f 0 (p - 1)
+lowest_listed p f h = rw (listed_length p f) (lowest_cong 0 (p - 1) (λ y a b. listed_at p y f (pos 0) (omega arith)))
 
 pub row_within : (p n k : ℕ) (rows : List ℤ) → n * p ≤ length rows → k < n → RowWithin p rows k
 row_within p n k rows h l = omega (arith, row_end k n p l)

@@ -6,7 +6,7 @@ use native.Mathlib.Decide.{ℕ_discrete}
 use native.Mathlib.Nat.{zero-add, suc-add}
 use native.Mathlib.Omega.{arith}
 use borrow.Author.Tests.{eq-eqb, ne_eqb}
-use lib.IntN.{ℤ}
+use lib.IntN.{ℤ, pos}
 use lib.ListN.{length, set, get_or, get_or-append}
 use Rattle.paper.specs.Sums.{sum, only, listed}
 use Rattle.paper.specs.Records.{root}
@@ -15,6 +15,7 @@ use Rattle.paper.specs.Trees.{Tree, is_root, row_of, cross_of, choose_from, clas
 use Rattle.amount.proofs.Sums.{sum_cong}
 use Rattle.amount.proofs.Lists.{listed_length, listed_at}
 use Rattle.amount.proofs.Worst.{lowest_cong}
+use Rattle.window.specs.Slides.{entry_of}
 use Rattle.window.proofs.Near.{near_cong, ChosenNear, chosen_is, chosen_only}
 use Rattle.vector.proofs.Listed.{begun}
 use Rattle.tree.specs.Buffers.{rows_in, from_root, HoldsRows}
@@ -32,6 +33,10 @@ chosen_cong p r x {v} {w} h e =
       is = sym (e (chosen_near p v r x) i.on) ∙ i.is ∙ low;
       early = λ y l n m. rw (← low, ← e y l) (i.early y l n m);
     })
+
+-- the point chosen in the list of a function's values is that of the function
+pub chosen_listed : (p : ℕ) (v : ℕ → ℤ) (r x : ℕ) → x < p → chosen_near (length (listed p v)) (entry_of (listed p v)) r x ≡ chosen_near p v r x
+chosen_listed p v r x h = rw (listed_length p v) (chosen_cong p r x h (λ y l. listed_at p y v (pos 0) l))
 
 module _ (t : Tree) (ok : Valid t) (rows : List ℤ) (holds : HoldsRows t rows) where
   open t use {points, classes, parent, reach, instruments, home, amount}

@@ -1,20 +1,23 @@
-// The tree of classes: its rows in the caller's buffer, the cross margin over them, and the choice handed back.
+// The tree of classes: its rows in the caller's buffer, and over the rows that it holds, the cross margin and the choice.
 #![tactic(auto)]
 
-ghost use Rattle.std.specs.Prelude.{◌≡◌, ℕ, ◌+◌, ◌<◌, ◌≤◌, nat_abs, ◌+ℤ◌, length};
-ghost use Rattle.std.specs.Int.{w64};
-ghost use Rattle.std.proofs.Common.{SFits};
-ghost use Rattle.paper.specs.Trees.{result_from, cross_of};
-ghost use Rattle.paper.specs.Answers.{add_cross, rows_for, choice_for};
-ghost use Rattle.tree.specs.Buffers.{walk, rows_in, RoomForRows, with_row, slid_over, EachFits, with_class, with_item, with_classes, with_items, ResultFits, HoldsRows, from_root};
+ghost use Rattle.std.specs.Prelude.{◌≡◌, ℕ, ◌+◌, ◌<◌, ◌≤◌, length};
+ghost use Rattle.paper.specs.Trees.{result_from};
+ghost use Rattle.paper.specs.Answers.{rows_for};
+ghost use Rattle.tree.specs.Buffers.{walk, rows_in, RoomForRows, with_row, slid_over, EachFits, with_class, with_item, with_classes, with_items, ResultFits};
 
 use book::SoundBook;
-use paper::Totals;
+pub use held::HeldRows;
 use vector::Item;
 
+mod held; // held.rt: the rows once they are filled, and the cross margin over them
 mod choice; // choice.rt: the point of a class and of an instrument
 mod row; // row.rt: one row in the buffer
 mod terms; // terms.rt: what the book fixes of a class
+
+// A class and an instrument are numbers here: that a number is one of the book's is asked once of each, and a type of it would hold
+// the book too and be made at each call, which is no plainer. Neither is one that lends the rows to be written: each method would
+// have to say that book and length stay.
 
 // Class c adds to row k where k is its parent.
 fn add_class(book: &SoundBook, rows: &mut [i64], k: usize, c: usize)
@@ -44,8 +47,7 @@ fn add_item(book: &SoundBook, rows: &mut [i64], k: usize, i: usize)
     requires { (k < book.now.shape.classes) × (i < book.now.shape.instruments) × RoomForRows book.now rows.old × EachFits book.now.shape.points (with_item (walk book.now).tree rows.old k i) }
     ensures { rows.new ≡ with_row book.now.shape.points rows.old k (with_item (walk book.now).tree rows.old k i) }
 {
-    let home = book.instrument(i).class as usize;
-    if home == k {
+    if terms::home_of(book, i) == k {
         slide_item(book, rows, k, i);
     }
 }
@@ -88,36 +90,4 @@ pub fn fill_rows(book: &SoundBook, rows: &mut [i64])
     for k in (0..book.shape.classes).rev() {
         fill_row(book, rows, k);
     }
-}
-
-// A root adds its lowest result to the cross margin.
-fn with_class(book: &SoundBook, rows: &[i64], k: usize, t: Totals) -> Totals
-    requires { (k < book.now.shape.classes) × RoomForRows book.now rows.now × SFits w64 (t.cross +ℤ from_root (walk book.now).tree (rows_in book.now.shape.points rows.now) k) }
-    ensures { result ≡ add_cross t (from_root (walk book.now).tree (rows_in book.now.shape.points rows.now) k) }
-{
-    match terms::parent_of(book, k) {
-        None => t.with_cross(row::lowest_in(rows, book.shape.points, k)),
-        Some(_) => t,
-    }
-}
-
-// The totals with the cross margin, over the rows that stand in the buffer.
-pub fn cross(book: &SoundBook, rows: &[i64], t: Totals) -> Totals
-    requires { RoomForRows book.now rows.now × HoldsRows (walk book.now).tree rows.now × (nat_abs t.cross ≤ 4000000000000000000) }
-    ensures { result ≡ add_cross t (cross_of (walk book.now).tree (rows_in book.now.shape.points rows.now)) }
-{
-    let mut totals = t;
-    for k in 0..book.shape.classes {
-        totals = with_class(book, rows, k, totals);
-    }
-    totals
-}
-
-// The choice handed back: a parent's point stands before its children look for theirs.
-pub fn choose(book: &SoundBook, rows: &[i64], choice: &mut [u16])
-    requires { RoomForRows book.now rows.now × HoldsRows (walk book.now).tree rows.now × (book.now.shape.classes + book.now.shape.instruments ≤ length choice.old) }
-    ensures { choice.new ≡ choice_for (walk book.now) choice.old }
-{
-    choice::choose_classes(book, rows, choice);
-    choice::choose_items(book, choice);
 }

@@ -4,18 +4,12 @@ ghost use Rattle.tree.specs.Buffers.{walk, parent_in};
 
 use book::SoundBook;
 
-// The number that a class without a parent gives for one.
-const ROOT: u16 = 65_535;
-
 // The parent of class k: a root has none.
 pub fn parent_of(book: &SoundBook, k: usize) -> Option<usize>
     requires { k < book.now.shape.classes }
     ensures { result ≡ parent_in (walk book.now).tree k }
 {
-    match book.class(k).parent {
-        ROOT => None,
-        parent => Some(parent as usize),
-    }
+    book.class(k).above().map(|parent| parent as usize)
 }
 
 // The reach of class k's window.
@@ -26,4 +20,14 @@ pub fn reach_of(book: &SoundBook, k: usize) -> usize
 {
     let class = book.class(k);
     window::reach(class.share, class.points)
+}
+
+// The class of instrument i.
+#[tactic(auto, using(crate::proofs::Book::home_within))]
+pub fn home_of(book: &SoundBook, i: usize) -> usize
+    requires { i < book.now.shape.instruments }
+    ensures home { result ≡ (walk book.now).tree.home i }
+    ensures within { result < book.now.shape.classes }
+{
+    book.instrument(i).class as usize
 }

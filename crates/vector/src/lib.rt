@@ -21,7 +21,8 @@ const HUNDREDTH_ORE: i64 = 25;
 // Par and Adj of product 3 are in millionths.
 const MILLION: u64 = 1_000_000;
 
-// An instrument on the scale of its class, with what is held of it.
+// An instrument on the scale of its class, with what is held of it. Its point stays a number that is below `points`, and a position
+// of a book one below its number of positions: a type for either would hold what it is a number of too, which is no plainer.
 #[derive(Clone, Copy)]
 pub struct Item {
     pub instrument: Instrument,

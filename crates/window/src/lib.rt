@@ -38,7 +38,7 @@ fn last_within(points: usize, r: usize, x: usize) -> usize
     x.saturating_add(r).min(points - 1)
 }
 
-// The entries of v within reach r of x.
+// The entries of v within reach r of x. The point x comes by itself: `lowest_near` and `chosen_near` promise this of any that lies in v.
 fn within(v: &[i64], r: usize, x: usize) -> &[i64]
     requires { x < length v.now }
     ensures { result.now ≡ within v.now r x }

@@ -1,4 +1,5 @@
-// A refusal in words: which record, of what kind, and what is wrong with it.
+// A refusal in words: which record, of what kind, and what is wrong with it. A text, and no `Display`: the contract gives each byte, and
+// of what `fmt` writes a contract can say nothing.
 #![tactic(auto)]
 
 ghost use Rattle.std.specs.Prelude.{◌≡◌, ◌≤◌, length, Some};
@@ -21,7 +22,7 @@ fn called(kind: Kind) -> &'static [u8]
     }
 }
 
-// And one of none.
+// And one of none. In one match over both, what the inner pattern binds left goals that no answer closed.
 #[tactic(auto, unfolding(crate::specs::Words::bytes))]
 fn kind_words(kind: Option<Kind>) -> &'static [u8]
     ensures words { result.now ≡ bytes (kind_words_of (rank kind)) }

@@ -10,18 +10,13 @@ use Rattle.margin.proofs.figures.Goals as goal
 summed : (mark naked cross same : ℤ) → cross ≡ same → add_cross (add_naked (add_mark no_totals mark) naked) cross ≡ record { mark = mark; naked = naked; cross = same }
 summed mark naked cross same e = λ i. record { mark = +ℤ_idl mark i; naked = +ℤ_idl naked i; cross = (+ℤ_idl cross ∙ e) i }
 
-pub cross-totals-requires : goal.cross-totals-requires
-cross-totals-requires c =
-    let b = c.args.book.now in (
-      omega arith,
-      rows_read (walk_of b.bytes.now b.shape) c.fill_rows.new.rows c.args.rows.now c.fill_rows.ensures,
-      rw (c.nakeds-bare.ensures, c.marks-marked.ensures, c.none.ensures) (omega arith),
-    )
+pub cross-requires : goal.cross-requires
+cross-requires c = rw (c.nakeds-bare.ensures, c.marks-marked.ensures, c.none.ensures) (omega arith)
 
-pub choose-requires : goal.choose-requires
-choose-requires c =
+pub invariant_of-held-clause-held : goal.invariant_of-held-clause-held
+invariant_of-held-clause-held c =
     let b = c.args.book.now in
-    (omega arith, rows_read (walk_of b.bytes.now b.shape) c.fill_rows.new.rows c.args.rows.now c.fill_rows.ensures, c.requires.choice)
+    rows_read (walk_of b.bytes.now b.shape) c.fill_rows.new.rows c.args.rows.now c.fill_rows.ensures
 
 pub returns : goal.returns
 returns c =
@@ -29,7 +24,7 @@ returns c =
     let w = walk_of b.bytes.now b.shape in
     let held = rows_read w c.fill_rows.new.rows c.args.rows.now c.fill_rows.ensures in
     record {
-      totalled = c.cross-totals.ensures
+      totalled = c.cross.ensures
           ∙ rw (c.nakeds-bare.ensures, c.marks-marked.ensures, c.none.ensures)
           (summed _ _ _ _ (cross_held w.tree (valid b.bytes.now b.shape b.sound) c.fill_rows.new.rows held));
       rows_hold = c.fill_rows.ensures;

@@ -38,7 +38,7 @@ item_point-requires c =
     let ok = valid _ _ b.sound in
     let h = ok.housed l.i (omega arith) in
     let e = home_point b.bytes.now b.shape c.args.choice.now l.choice _ l.i b.sound (omega arith) c.requires.1 l.invariant (omega arith) in
-    (omega arith, omega arith, rw e (choice_on_lem w.tree ok (w.tree.home l.i) h))
+    (omega arith, rw (c.home_of.ensures.home, e) (choice_on_lem w.tree ok (w.tree.home l.i) h))
 
 pub loop-i-preserved : goal.loop-i-preserved
 unfolding item_choice
@@ -52,7 +52,7 @@ loop-i-preserved c =
     let long : length back ≡ length start - n = length-drop n start in
     let h : l.i < length back = omega arith in
     let e = home_point b.bytes.now b.shape start l.choice _ l.i b.sound (omega arith) c.requires.1 l.invariant (omega arith) in
-    rw (c.item_point.ensures, e, l.invariant)
+    rw (c.item_point.ensures, c.home_of.ensures.home, e, l.invariant)
     (set_past (take n start) _ n l.i _ (length-take-le n start (omega arith))
     ∙ ap (λ (xs : List ℕ). take n start ++ xs) (begun_set l.i (item_choice w.tree w.row) back 0 h))
 

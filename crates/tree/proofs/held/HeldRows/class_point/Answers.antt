@@ -7,17 +7,16 @@ use Rattle.paper.specs.Trees.{Tree}
 use Rattle.paper.specs.Answers.{walk_of}
 use Rattle.tree.specs.Buffers.{parent_in}
 use Rattle.book.proofs.Sound.{sound_book}
-use Rattle.tree.proofs.Buffers.{row_within}
-use Rattle.tree.proofs.choice.class_point.Goals as goal
+use Rattle.tree.proofs.held.HeldRows.class_point.Goals as goal
 
 pub overflow_sub-points : goal.overflow_sub-points
-overflow_sub-points c = let p = (sound_book _ _ c.args.book.now.sound).points (omega arith) in omega arith
+overflow_sub-points c = let p = (sound_book _ _ c.args.self.now.book.sound).points (omega arith) in omega arith
 
-pub chosen_in-requires : goal.chosen_in-requires
-chosen_in-requires c =
-    let b = c.args.book.now in
+pub chosen-requires : goal.chosen-requires
+chosen-requires c =
+    let b = c.args.self.now.book in
     let p = (sound_book _ _ b.sound).points (omega arith) in
-    (row_within b.shape.points b.shape.classes c.args.k c.args.rows.now c.requires.1 c.requires.0, p.most, omega arith)
+    (c.requires.0, omega (arith, p.least))
 
 -- a parent that stands there is the number in the record, and no root's
 child : (t : Tree) (k a : ℕ) → Some a ≡ parent_in t k → (t.parent k ≢ root) × (t.parent k ≡ a)
@@ -26,9 +25,9 @@ child t k a e = elim (ℕ_discrete (t.parent k) root) [
   | no r ↦ let s = rw (ne_eqb (t.parent k) root r) at e in (r, grind arith)
 ]
 
-pub chosen_in-requires-in-Some : goal.chosen_in-requires-in-Some
-chosen_in-requires-in-Some c =
-    let b = c.args.book.now in
+pub chosen-requires-in-Some : goal.chosen-requires-in-Some
+chosen-requires-in-Some c =
+    let b = c.args.self.now.book in
     let p = (sound_book _ _ b.sound).points (omega arith) in
     let e = child (walk_of b.bytes.now b.shape).tree c.args.k c.in-Some.above c.in-Some.ensures in
-    (row_within b.shape.points b.shape.classes c.args.k c.args.rows.now c.requires.1 c.requires.0, p.most, rw e.1 at (c.requires.3 e.0))
+    (c.requires.0, rw e.1 at (c.requires.2 e.0))

@@ -9,7 +9,7 @@ use Rattle.margin.specs.Run.{Ran}
 use Rattle.listing.specs.Page.{figure_lines}
 use Rattle.listing.proofs.Sounds.{enough, listing_is}
 use Rattle.listing.proofs.Lengths.{sound_short}
-use Rattle.listing.proofs.page.put_sound.Goals as goal
+use Rattle.listing.proofs.page.sound_page.Goals as goal
 
 -- the lines of what was run in buffers that are long enough are the listing's
 lines_are :
@@ -27,7 +27,7 @@ put_figures-requires c =
     let s = c.args.book.now.shape in
     let ok = sound_book b s c.args.book.now.sound in
     let e = lines_are b s _ _ _ _ _ _ _ c.args.book.now.sound refl refl c.run-answer.ensures in
-    rw c.totals.ensures (omega (arith, sound_short b s c.args.book.now.sound, c.requires, ap length e), omega (arith, ok.classes, ok.instruments))
+    rw c.totals.ensures (omega (arith, sound_short b s c.args.book.now.sound, ap length c.empty-page.ensures, ap length e), omega (arith, ok.classes, ok.instruments))
 
 pub returns : goal.returns
-returns c = rw (c.totals.ensures, lines_are c.args.book.now.bytes.now c.args.book.now.shape _ _ _ _ _ _ _ c.args.book.now.sound refl refl c.run-answer.ensures) at c.put_figures.ensures
+returns c = rw (c.empty-page.ensures, c.totals.ensures, lines_are c.args.book.now.bytes.now c.args.book.now.shape _ _ _ _ _ _ _ c.args.book.now.sound refl refl c.run-answer.ensures) at c.put_figures.ensures

@@ -6,7 +6,7 @@ use Rattle.vector.proofs.Listed.{begun, begun_set}
 use Rattle.tree.proofs.Book.{valid}
 use Rattle.tree.proofs.Theorem.{choice_on_lem}
 use Rattle.tree.proofs.Read.{begun_at, class_chosen}
-use Rattle.tree.proofs.choice.choose_classes.Goals as goal
+use Rattle.tree.proofs.held.HeldRows.choose_classes.Goals as goal
 
 pub loop-k-init : goal.loop-k-init
 unfolding listed
@@ -14,12 +14,11 @@ loop-k-init c = refl
 
 pub class_point-requires : goal.class_point-requires
 class_point-requires c =
-    let b = c.args.book.now in
+    let b = c.args.self.now.book in
     let l = c.loop-k in
     let w = walk_of b.bytes.now b.shape in
     let ok = valid _ _ b.sound in (
       omega arith,
-      c.requires.0,
       omega arith,
       λ r.
           let before = ok.before l.k (omega arith) r in
@@ -29,18 +28,18 @@ class_point-requires c =
 
 pub loop-k-preserved : goal.loop-k-preserved
 loop-k-preserved c =
-    let b = c.args.book.now in
+    let b = c.args.self.now.book in
     let l = c.loop-k in
     let w = walk_of b.bytes.now b.shape in
     let points = class_choice w.tree w.row in
     let start = c.args.choice.now in
     let h : l.k < length start = omega arith in
-    let chosen = class_chosen w.tree (valid _ _ b.sound) c.args.rows.now c.requires.1 (class_point l.choice) l.k (omega arith)
+    let chosen = class_chosen w.tree (valid _ _ b.sound) c.args.self.now.cells.now c.args.self.now.held (class_point l.choice) l.k (omega arith)
     (λ j g. rw l.invariant (begun_at l.k j points start 0 g)) in
     rw (c.class_point.ensures, chosen, l.invariant) (begun_set l.k points start 0 h)
 
 pub returns : goal.returns
 returns c =
-    let b = c.args.book.now in
+    let b = c.args.self.now.book in
     let w = walk_of b.bytes.now b.shape in
     c.loop-k.invariant ∙ ap (λ n. begun n (class_choice w.tree w.row) c.args.choice.now) (omega arith)
