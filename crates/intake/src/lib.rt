@@ -17,7 +17,7 @@ pub struct Kept<'a> {
 }
 
 impl<'a> Kept<'a> {
-    // Of so many bytes that came the buffer holds the first.
+    // Of so many bytes that came the buffer holds the first: more may have come, so `whole` is not its length. The buffer is `read`'s.
     fn first_of(buffer: &'a [u8], whole: usize) -> Kept<'a>
         requires { length buffer.now ≡ kept_bytes }
         ensures bytes { result.bytes.now ≡ take whole buffer.now }
@@ -43,7 +43,7 @@ fn after(whole: usize, got: io::Result<usize>) -> io::Result<Option<usize>>
     }
 }
 
-// One read more, into the room that is left or, where there is none, past it.
+// One read more, into the room that is left or, where there is none, past it. The buffer is `read`'s.
 #[tactic(auto, using(crate::proofs::Reading::into_room, crate::proofs::Reading::past_it))]
 fn next<R: Read>(from: &mut R, buffer: &mut [u8], whole: usize) -> io::Result<Option<usize>>
     requires room { length buffer.old ≡ kept_bytes }

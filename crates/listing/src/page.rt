@@ -115,7 +115,8 @@ impl Page {
         }
     }
 
-    // The figures of an accepted book, with the choice that stands in the buffer: the classes' points, then the instruments'.
+    // The figures of an accepted book, with the choice that stands in the buffer: the classes' points, then the instruments'. That it has
+    // room is asked of the book's shape, which comes apart from it, as in `tree`.
     fn put_figures(&mut self, book: &[u8], s: Shape, t: Totals, choice: &[u16])
         requires { (length self.old + length (figure_lines book.now s t choice.now) ≤ most) × (s.classes + s.instruments ≤ length choice.now) }
         ensures { self.new ≡ self.old ++ figure_lines book.now s t choice.now }

@@ -4,6 +4,7 @@
 ghost use Rattle.std.specs.Prelude.{◌≡◌, cond, Ok, Err, ◌+◌, ◌*◌, ◌≤◌, length};
 ghost use Rattle.paper.specs.Refusals.{verdict_on, with_room};
 ghost use Rattle.paper.specs.Answers.{answer_code, answer_place, answer_totals};
+ghost use Rattle.tree.specs.Buffers.{RoomForRows};
 ghost use Rattle.margin.specs.Run.{Ran, Figured};
 ghost use Rattle.margin.specs.Counted.{whole_kept, torn, CountedVerdict, CountedRan};
 ghost use Rattle.margin.specs.Items.{item_for, item_of, item_mark_for, item_mark_of};
@@ -41,9 +42,10 @@ fn admitted(book: &[u8], rows: usize, choice: usize) -> Result<Shape, Refusal>
     with_room(shape, book.len() / 32, rows, choice)
 }
 
-// The figures of a sound book that has room: the totals by value through positions, instruments and roots, the rows, the choice.
+// The figures of a sound book that has room: the totals by value through positions, instruments and roots, the rows, the choice. Both
+// buffers are the caller's, each with its room, as in `tree`.
 fn figures(book: &SoundBook, rows: &mut [i64], choice: &mut [u16]) -> Totals
-    requires rows { book.now.shape.classes * book.now.shape.points ≤ length rows.old }
+    requires rows { RoomForRows book.now rows.old }
     requires choice { book.now.shape.classes + book.now.shape.instruments ≤ length choice.old }
     ensures { Figured book.now.bytes.now book.now.shape rows.old choice.old result rows.new choice.new }
 {
@@ -68,6 +70,7 @@ pub fn run(book: &[u8], rows: &mut [i64], choice: &mut [u16]) -> Result<Totals, 
 }
 
 // That so many bytes kept, of so many, are those of a book of whole records. What is cut, or is of no book, has a faulty length.
+// They stay two numbers, as below.
 fn whole(kept: usize, size: usize) -> Result<(), Refusal>
     ensures { result ≡ cond (whole_kept kept size) (Ok tt) (Err (torn size)) }
 {

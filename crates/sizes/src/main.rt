@@ -223,7 +223,7 @@ fn written(out: &impl Print, rows: usize, choice: usize) {
 }
 
 fn totals(out: &impl Print, t: Totals) {
-    if (t.mark == 0) & (t.naked == 0) & (t.cross == 0) {
+    if [t.mark, t.naked, t.cross] == [0, 0, 0] {
         word(out, b", totals zero");
     } else {
         word(out, b", totals not zero");

@@ -58,7 +58,7 @@ impl HeldRows<'_> {
         }
     }
 
-    // The totals with the cross margin.
+    // The totals with the cross margin. A loop of its own, as `vector::nakeds` is.
     pub fn cross(&self, t: Totals) -> Totals
         requires { nat_abs t.cross ≤ 4000000000000000000 }
         ensures { result ≡ add_cross t (cross_of (walk self.now.book).tree (rows_in self.now.book.shape.points self.now.cells.now)) }

@@ -1,4 +1,4 @@
-// Rows in the caller's buffer: each is lent on as a part that starts inside it. Points and k are not a struct: it would hold no
+// Rows in the caller's buffer, which is one for all of them, as `desk_run` is lent it: each is lent on as a part that starts inside it. Points and k are not a struct: it would hold no
 // fact, since whether the row lies within is of the buffer too.
 ghost use Rattle.std.specs.Prelude.{◌≡◌, ◌≤◌, pos, length};
 ghost use Rattle.window.specs.Slides.{entry_of};

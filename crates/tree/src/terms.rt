@@ -1,4 +1,4 @@
-// What the book fixes of a class.
+// What the book fixes of a class. Class k and instrument i are numbers, as in lib.rt.
 ghost use Rattle.std.specs.Prelude.{◌≡◌, ◌<◌};
 ghost use Rattle.tree.specs.Buffers.{walk, parent_in};
 

@@ -103,7 +103,7 @@ impl Item {
         amount::nearest(numerator, MILLION * (self.points - 1) as u64)
     }
 
-    // One contract at point i, by its product.
+    // One contract at point i, by its product. `one_at` has a last case, of 0, for a number that is none, and so has this.
     fn one(&self, buys: bool, i: usize) -> i64
         requires { i < self.now.points }
         ensures { result ≡ one_at self.now.instrument (self.now.points - 1) buys i }
@@ -126,7 +126,8 @@ impl Item {
         for_net(self.one(buys, i), net)
     }
 
-    // The vector: the amount at each point, in the first entries of the working array.
+    // The vector: the amount at each point, in the first entries of the working array, which is lent: its length is the book's, and memory
+    // is fixed here.
     pub fn fill(&self, work: &mut [i64])
         requires { self.now.points ≤ length work.old }
         ensures { work.new ≡ listed self.now.points (amount_at self.now.instrument self.now.points self.now.held) ++ drop self.now.points work.old }
@@ -197,7 +198,7 @@ impl Trade {
         }
     }
 
-    // What a move is worth on one bought contract.
+    // What a move is worth on one bought contract. The last case is `mark_one`'s.
     fn mark_of_one(&self, d: i64) -> i64
         requires { nat_abs d ≤ 200000000 }
         ensures { result ≡ mark_one self.now.instrument d }
