@@ -1,4 +1,4 @@
-use Rattle.std.proofs.Common.{◌≡◌, ◌∙◌, ℤ, arith}
+use Rattle.std.proofs.Common.{◌≡◌, ◌∙◌, ℤ}
 use lib.IntN.{+ℤ_idl}
 use Rattle.paper.specs.Answers.{walk_of, add_mark, add_naked, add_cross, no_totals}
 use Rattle.tree.proofs.Filled.{rows_read}
@@ -9,9 +9,6 @@ use Rattle.margin.proofs.figures.Goals as goal
 -- one amount on top of each zero
 summed : (mark naked cross same : ℤ) → cross ≡ same → add_cross (add_naked (add_mark no_totals mark) naked) cross ≡ record { mark = mark; naked = naked; cross = same }
 summed mark naked cross same e = λ i. record { mark = +ℤ_idl mark i; naked = +ℤ_idl naked i; cross = (+ℤ_idl cross ∙ e) i }
-
-pub cross-requires : goal.cross-requires
-cross-requires c = rw (c.nakeds-bare.ensures, c.marks-marked.ensures, c.none.ensures) (omega arith)
 
 pub invariant_of-held-clause-held : goal.invariant_of-held-clause-held
 invariant_of-held-clause-held c =

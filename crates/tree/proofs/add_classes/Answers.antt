@@ -1,6 +1,5 @@
-use Rattle.std.proofs.Common.{◌∙◌, ap, ◌+◌, arith}
+use Rattle.std.proofs.Common.{◌∙◌, ◌+◌, arith}
 use Rattle.paper.specs.Answers.{walk_of}
-use Rattle.tree.specs.Buffers.{with_row, with_classes}
 use Rattle.tree.proofs.Book.{valid}
 use Rattle.tree.proofs.Filled.{no_class, class_step, class_next}
 use Rattle.tree.proofs.add_classes.Goals as goal
@@ -23,9 +22,3 @@ loop-c-preserved c =
     let l = c.loop-c in
     let next = class_next (walk_of b.bytes.now b.shape).tree (valid _ _ b.sound) c.args.rows.now c.args.k c.requires.0 c.requires.1 l.c (omega arith) in
     c.add_class.ensures ∙ rw l.invariant next
-
-pub returns : goal.returns
-returns c =
-    let b = c.args.book.now in
-    c.loop-c.invariant
-    ∙ ap (λ n. with_row b.shape.points c.args.rows.now c.args.k (with_classes (walk_of b.bytes.now b.shape).tree c.args.rows.now c.args.k n)) (omega arith)

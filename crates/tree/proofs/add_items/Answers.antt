@@ -1,6 +1,5 @@
-use Rattle.std.proofs.Common.{◌∙◌, ap, ◌+◌, arith}
+use Rattle.std.proofs.Common.{◌∙◌, ◌+◌, arith}
 use Rattle.paper.specs.Answers.{walk_of}
-use Rattle.tree.specs.Buffers.{with_row, with_items}
 use Rattle.tree.proofs.Book.{valid}
 use Rattle.tree.proofs.Filled.{no_item, item_step, item_next}
 use Rattle.tree.proofs.add_items.Goals as goal
@@ -23,9 +22,3 @@ loop-i-preserved c =
     let l = c.loop-i in
     let next = item_next (walk_of b.bytes.now b.shape).tree (valid _ _ b.sound) c.args.rows.now c.args.k c.requires.0 c.requires.1 l.i in
     c.add_item.ensures ∙ rw l.invariant next
-
-pub returns : goal.returns
-returns c =
-    let b = c.args.book.now in
-    c.loop-i.invariant
-    ∙ ap (λ n. with_row b.shape.points c.args.rows.now c.args.k (with_items (walk_of b.bytes.now b.shape).tree c.args.rows.now c.args.k n)) (omega arith)

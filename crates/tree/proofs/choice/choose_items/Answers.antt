@@ -1,5 +1,5 @@
 use Rattle.std.specs.Prelude.{Ok}
-use Rattle.std.proofs.Common.{◌≡◌, ◌∙◌, ap, sym, List, ℕ, ◌++◌, ◌-◌, ◌<◌, ◌≤◌, length, take, drop, drop-drop, length-drop, take-append-drop, arith}
+use Rattle.std.proofs.Common.{◌≡◌, ◌∙◌, ap, sym, List, ℕ, ◌++◌, ◌-◌, ◌<◌, ◌≤◌, length, take, drop, length-drop, take-append-drop, arith}
 use lib.ListN.{get_or-append}
 use lib.Seq.{length-take-le, get_or-take}
 use Rattle.paper.specs.declared.Shape.{Shape}
@@ -7,7 +7,7 @@ use Rattle.paper.specs.Sums.{listed}
 use Rattle.paper.specs.Refusals.{verdict_of}
 use Rattle.paper.specs.Trees.{class_choice, item_choice}
 use Rattle.paper.specs.Answers.{class_point, walk_of}
-use Rattle.vector.proofs.Listed.{begun, begun_set}
+use Rattle.vector.proofs.Listed.{begun_set}
 use Rattle.tree.specs.Buffers.{ChosenClasses}
 use Rattle.tree.proofs.Book.{valid}
 use Rattle.tree.proofs.Theorem.{choice_on_lem}
@@ -55,14 +55,3 @@ loop-i-preserved c =
     rw (c.item_point.ensures, c.home_of.ensures.home, e, l.invariant)
     (set_past (take n start) _ n l.i _ (length-take-le n start (omega arith))
     ∙ ap (λ (xs : List ℕ). take n start ++ xs) (begun_set l.i (item_choice w.tree w.row) back 0 h))
-
-pub returns : goal.returns
-returns c =
-    let b = c.args.book.now in
-    let w = walk_of b.bytes.now b.shape in
-    let n = b.shape.classes in
-    let start = c.args.choice.now in
-    let m = b.shape.instruments in
-    c.loop-i.invariant
-    ∙ ap (λ i. take n start ++ begun i (item_choice w.tree w.row) (drop n start)) (omega arith)
-    ∙ ap (λ (rest : List ℕ). take n start ++ (listed m (item_choice w.tree w.row) ++ rest)) (drop-drop m n start)

@@ -1,8 +1,8 @@
-use Rattle.std.proofs.Common.{◌∙◌, refl, ap, ◌<◌, length, arith}
+use Rattle.std.proofs.Common.{refl, ◌<◌, length, arith}
 use Rattle.paper.specs.Sums.{listed}
 use Rattle.paper.specs.Trees.{class_choice}
 use Rattle.paper.specs.Answers.{class_point, walk_of}
-use Rattle.vector.proofs.Listed.{begun, begun_set}
+use Rattle.vector.proofs.Listed.{begun_set}
 use Rattle.tree.proofs.Book.{valid}
 use Rattle.tree.proofs.Theorem.{choice_on_lem}
 use Rattle.tree.proofs.Read.{begun_at, class_chosen}
@@ -37,9 +37,3 @@ loop-k-preserved c =
     let chosen = class_chosen w.tree (valid _ _ b.sound) c.args.self.now.cells.now c.args.self.now.held (class_point l.choice) l.k (omega arith)
     (λ j g. rw l.invariant (begun_at l.k j points start 0 g)) in
     rw (c.class_point.ensures, chosen, l.invariant) (begun_set l.k points start 0 h)
-
-pub returns : goal.returns
-returns c =
-    let b = c.args.self.now.book in
-    let w = walk_of b.bytes.now b.shape in
-    c.loop-k.invariant ∙ ap (λ n. begun n (class_choice w.tree w.row) c.args.choice.now) (omega arith)
