@@ -1,6 +1,8 @@
 -- Each public function's contract, of this crate and of the vocabulary below it, allows one result. Assumes nothing.
 use Rattle.amount.proofs.Outcomes.{OneResult, coincide}
 use Rattle.paper.proofs.Fault.code.Reads as fault-code-reads
+use Rattle.paper.proofs.Kind.rank.Reads as rank-reads
+use Rattle.paper.proofs.ProductTryFromU8.try_from.Reads as try-from-reads
 use Rattle.paper.proofs.ResultTotalsRefusalNumbers.code.Reads as answer-code-reads
 use Rattle.paper.proofs.ResultTotalsRefusalNumbers.place.Reads as answer-place-reads
 use Rattle.paper.proofs.ResultTotalsRefusalNumbers.totals.Reads as answer-totals-reads
@@ -15,12 +17,19 @@ use Rattle.amount.proofs.plus.Reads as plus-reads
 use Rattle.amount.proofs.less.Reads as less-reads
 use Rattle.amount.proofs.times.Reads as times-reads
 use Rattle.amount.proofs.worse.Reads as worse-reads
+use Rattle.amount.proofs.lowest_from.Reads as lowest-from-reads
 use Rattle.amount.proofs.lowest.Reads as lowest-reads
 use Rattle.amount.proofs.size.Reads as size-reads
 use Rattle.amount.proofs.nearest.Reads as nearest-reads
 
 fault_code : OneResult fault-code-reads.Post
 fault_code κs a x y e f = coincide
+
+rank : OneResult rank-reads.Post
+rank κs a x y e f = coincide
+
+product_try_from : OneResult try-from-reads.Post
+product_try_from κs a x y e f = coincide
 
 answer_code_lem : OneResult answer-code-reads.Post
 answer_code_lem κs a x y e f = coincide
@@ -57,6 +66,9 @@ worse κs a x y e f = coincide
 
 size : OneResult size-reads.Post
 size κs a x y e f = coincide
+
+lowest_from : OneResult lowest-from-reads.Post
+lowest_from κs a x y e f = coincide
 
 lowest : OneResult lowest-reads.Post
 lowest κs a x y e f = coincide

@@ -35,12 +35,24 @@ pub fn worse(a: i64, b: i64) -> i64
     a.min(b)
 }
 
+// The lowest of the amounts from one number to another.
+pub fn lowest_from(v: &[i64], from: usize, to: usize) -> i64
+    requires { (from ≤ to) × (to < length v.now) }
+    ensures { result ≡ lowest_of (λ y. get_or v.now y (pos 0)) from (to - from) }
+{
+    let mut low = v[from];
+    for y in from..to {
+        low = worse(low, v[y + 1]);
+    }
+    low
+}
+
 // The lowest of the amounts.
 pub fn lowest(v: &[i64]) -> i64
     requires { 0 < length v.now }
     ensures { result ≡ lowest_of (λ y. get_or v.now y (pos 0)) 0 (length v.now - 1) }
 {
-    v.iter().copied().fold(v[0], worse)
+    lowest_from(v, 0, v.len() - 1)
 }
 
 // The size of an amount, of the lowest too, whose negative no i64 holds.

@@ -33,6 +33,8 @@ pub record ReadTo (old new : Option (List ℕ)) (bytes : List ℕ) (whole : ℕ)
   pub at_end : IsAtEnd new
   pub held : Held came bytes whole
 
--- an input was not read to its end: some bytes may have come all the same
-abbrev pub ReadSome : Option (List ℕ) → Option (List ℕ) → Type 0
-ReadSome old new = (came : List ℕ) × Consumes old new came
+-- an input was not read to its end: some bytes may have come all the same, and are kept and counted as at the end
+pub record ReadSome (old new : Option (List ℕ)) (bytes : List ℕ) (whole : ℕ) : Type 0 where
+  pub came : List ℕ
+  pub consumed : Consumes old new came
+  pub held : Held came bytes whole

@@ -1,14 +1,14 @@
 // An input, to its end: the first bytes are kept, the others are counted.
 #![tactic(auto)]
 
-ghost use Rattle.std.specs.Prelude.{◌≡◌, ◌+◌, ◌≤◌, min, length, take, IfOk, OnErr};
+ghost use Rattle.std.specs.Prelude.{◌≡◌, ◌+◌, ◌≤◌, min, length, take, IfOk, IfErr};
 ghost use Rattle.paper.specs.Listing.{kept_bytes};
 ghost use Rattle.intake.specs.Input.{after as after_of, Next, ReadTo, ReadSome};
 
 use std::io;
 use std::io::Read;
 
-// What an input is: its first bytes, as many as are kept of any, and how many it has.
+// What came of an input: its first bytes, as many as are kept of any, and how many came.
 #[derive(Clone, Copy)]
 pub struct Kept<'a> {
     pub bytes: &'a [u8],
@@ -31,6 +31,13 @@ impl<'a> Kept<'a> {
     }
 }
 
+// Why an input was not read to its end, and what had come of it by then.
+#[derive(Drop)]
+pub struct Unread<'a> {
+    pub error: io::Error,
+    pub kept: Kept<'a>,
+}
+
 // How many bytes came in all after one read more, by its answer; none more at the end, where a read brings no byte.
 fn after(whole: usize, got: io::Result<usize>) -> io::Result<Option<usize>>
     requires counted { whole ≤ 4000000000000000000 }
@@ -43,8 +50,10 @@ fn after(whole: usize, got: io::Result<usize>) -> io::Result<Option<usize>>
     }
 }
 
-// One read more, into the room that is left or, where there is none, past it. The buffer is `read`'s.
+// One read more, into the room that is left or, where there is none, past it. The buffer is `read`'s. What is
+// read past it is on the stack for as long as this runs.
 #[tactic(auto, using(crate::proofs::Reading::into_room, crate::proofs::Reading::past_it))]
+#[inline(never)]
 fn next<R: Read>(from: &mut R, buffer: &mut [u8], whole: usize) -> io::Result<Option<usize>>
     requires room { length buffer.old ≡ kept_bytes }
     requires counted { whole ≤ 4000000000000000000 }
@@ -59,18 +68,24 @@ fn next<R: Read>(from: &mut R, buffer: &mut [u8], whole: usize) -> io::Result<Op
 }
 
 // Reads an input to its end, keeping what the buffer holds and counting the rest. One that goes on and on can't be read. Any slice of
-// the length will do: an array would be narrower.
-pub fn read<'a, R: Read>(from: &mut R, buffer: &'a mut [u8]) -> io::Result<Kept<'a>>
+// the length will do: an array would be narrower. What came before a failure is kept and counted as what comes before the end is.
+pub fn read<'a, R: Read>(from: &mut R, buffer: &'a mut [u8]) -> Result<Kept<'a>, Unread<'a>>
     requires { length buffer.old ≡ kept_bytes }
     ensures read { IfOk result (λ k. ReadTo (R.remaining from.old) (R.remaining from.new) k.bytes.now k.whole) }
-    ensures unread { OnErr result (ReadSome (R.remaining from.old) (R.remaining from.new)) }
+    ensures unread { IfErr result (λ u. ReadSome (R.remaining from.old) (R.remaining from.new) u.kept.bytes.now u.kept.whole) }
 {
     let mut whole = 0;
     for _ in 0..1_000_000_000_000u64 {
-        match next(from, buffer, whole)? {
-            Some(more) => whole = more,
-            None => return Ok(Kept::first_of(buffer, whole)),
+        match next(from, buffer, whole) {
+            Ok(Some(more)) => whole = more,
+            Ok(None) => return Ok(Kept::first_of(buffer, whole)),
+            Err(error) => {
+                let kept = Kept::first_of(buffer, whole);
+                return Err(Unread { error, kept });
+            }
         }
     }
-    Err(io::Error::other("the input does not end"))
+    let error = io::Error::other("the input does not end");
+    let kept = Kept::first_of(buffer, whole);
+    Err(Unread { error, kept })
 }

@@ -7,7 +7,7 @@ use mathlib.Core.List.{List, ◌++◌}
 use Prim.Native.Nat.{ℕ, ◌/◌, ◌^◌, ◌≤◌, ◌<◌}
 use native.Mathlib.Decide.{ℕ_discrete}
 use native.Mathlib.Omega.{arith}
-use borrow.Author.Tests.{le-ltb}
+use borrow.Author.Tests.{lt-ltb, le-ltb}
 use lib.ListN.{length, drop, length-append, length-drop}
 use Rattle.paper.specs.declared.Shape.{Shape}
 use Rattle.paper.specs.declared.Fault.{Fault}
@@ -41,6 +41,16 @@ listing_short b h = by (verdict_of b) refl
     by : (v : Verdict) → verdict_of b ≡ v → length (listing_for b v) ≤ most
     by (Ok s) e = sound_short b s e
     by (Err r) e = refused_short r.fault r.place (omega (arith, place_most b r.fault r.place e))
+
+-- where the buffer is too short for some listing there is none
+too_short : (s out : List ℕ) → length s ≤ most → length out < most → Printed s out None out
+too_short s out l h = let e = lt-ltb (length out) most h in record { fits = l; answers = rw e; holds = rw e }
+
+pub listed_short : (kept : List ℕ) (size : ℕ) (out : List ℕ) → size < 2 ^ 64 → length out < most → Listed kept size out None out
+listed_short kept size out few h = record {
+  of_book = λ b of. too_short (listing_of b) out (listing_short b (omega (arith, of.counted))) h;
+  of_none = λ none. too_short _ out (refused_short Length (size / record_bytes) (omega arith)) h;
+}
 
 -- what is printed is the listing of every book that was so kept and counted
 module _ (kept : List ℕ) (size : ℕ) (out : List ℕ) {page : Option ℕ} {out' : List ℕ} where

@@ -16,6 +16,13 @@ Handed kept size old new = (b : List ℕ) → KeptOf b kept size → Appends old
 abbrev pub Told : List ℕ → ℕ → Option (List ℕ) → Option (List ℕ) → Type 0
 Told kept size old new = (b : List ℕ) → KeptOf b kept size → Appends old new (said b (verdict_of b))
 
+-- what was kept and counted is published: its listing, and what is said of it; where the one is cut, the other is not begun
+abbrev pub Published : {A : Type 0} → List ℕ → ℕ → Option (List ℕ) → Option (List ℕ) → Option (List ℕ) → Option (List ℕ) → Result A Failure → Type 0
+Published kept size out out' err err' (Ok u) = Handed kept size out out' × Told kept size err err'
+Published kept size out out' err err' (Err Untold) = Handed kept size out out'
+Published kept size out out' err err' (Err Cut) = Keeps err err'
+Published kept size out out' err err' (Err Unread) = ⊥
+
 -- a reader gave this book, and has no more
 pub record Gave (old new : Option (List ℕ)) (b : List ℕ) : Type 0 where
   pub consumed : Consumes old new b

@@ -127,39 +127,58 @@ impl Page {
         self.put_items(book, &rest[..s.instruments]);
     }
 
-    // Copies the page into a buffer, and hands back how many bytes it has there. In a buffer that is too short for some listing
-    // there is none, and nothing is written.
-    fn print(&self, out: &mut [u8]) -> Option<usize>
-        ensures { Printed self.now out.old result out.new }
+    // Copies the page into a buffer that has room for any, and hands back how many bytes it has there.
+    fn print(&self, out: &mut [u8]) -> usize
+        requires { most ≤ length out.old }
+        ensures { Printed self.now out.old (Some result) out.new }
     {
-        let written = &self.bytes[..self.end];
-        if out.len() < ROOM {
-            return None;
-        }
-        out[..self.end].copy_from_slice(written);
-        Some(self.end)
+        out[..self.end].copy_from_slice(&self.bytes[..self.end]);
+        self.end
     }
 }
 
-// The listing of a sound book.
-fn sound_page(book: &SoundBook) -> Page
-    ensures { result ≡ listing_for book.now.bytes.now (Ok book.now.shape) }
+// What of a sound book's figures is listed: the totals and the choice. Its rows are not, and are gone before a page is begun.
+#[inline(never)]
+fn figures(book: &SoundBook) -> (Totals, [u16; 88])
+    ensures { figure_lines book.now.bytes.now book.now.shape result.0 result.1 ≡ listing_for book.now.bytes.now (Ok book.now.shape) }
 {
     let mut rows = [0i64; 4824];
     let mut choice = [0u16; 88];
     let answer = margin::run(book.bytes, &mut rows, &mut choice);
+    (answer.totals(), choice)
+}
+
+// The listing of figures that are a sound book's. The page, and that of a refused book, are on the stack only while they are written.
+#[inline(never)]
+fn print_figures(book: &SoundBook, totals: Totals, choice: &[u16], out: &mut [u8]) -> usize
+    requires figures { figure_lines book.now.bytes.now book.now.shape totals choice.now ≡ listing_for book.now.bytes.now (Ok book.now.shape) }
+    requires choice { book.now.shape.classes + book.now.shape.instruments ≤ length choice.now }
+    requires out { most ≤ length out.old }
+    ensures { Printed (listing_for book.now.bytes.now (Ok book.now.shape)) out.old (Some result) out.new }
+{
     let mut page = Page::empty();
-    page.put_figures(book.bytes, book.shape, answer.totals(), &choice);
-    page
+    page.put_figures(book.bytes, book.shape, totals, choice);
+    page.print(out)
+}
+
+// The listing of a sound book.
+fn print_sound(book: &SoundBook, out: &mut [u8]) -> usize
+    requires { most ≤ length out.old }
+    ensures { Printed (listing_for book.now.bytes.now (Ok book.now.shape)) out.old (Some result) out.new }
+{
+    let (totals, choice) = figures(book);
+    print_figures(book, totals, &choice, out)
 }
 
 // The listing of a refused one.
-fn refused_page(refusal: Refusal) -> Page
-    ensures { result ≡ refused_line (code_of refusal.fault) refusal.place }
+#[inline(never)]
+fn print_refused(refusal: Refusal, out: &mut [u8]) -> usize
+    requires { most ≤ length out.old }
+    ensures { Printed (refused_line (code_of refusal.fault) refusal.place) out.old (Some result) out.new }
 {
     let mut page = Page::empty();
     page.put(refused_line(refusal));
-    page
+    page.print(out)
 }
 
 // The listing of a book of which the first records were kept, and the bytes of the whole were counted: how many bytes of the
@@ -168,31 +187,35 @@ fn refused_page(refusal: Refusal) -> Page
 pub fn listing(kept: &[u8], size: usize, out: &mut [u8]) -> Option<usize>
     ensures { Listed kept.now size out.old result out.new }
 {
+    let short = out.len() < ROOM;
+    if short {
+        return None;
+    }
     match margin::scan_counted(kept, size) {
-        Ok(shape) => sound_page(&SoundBook { bytes: kept, shape }).print(out),
-        Err(refusal) => refused_page(refusal).print(out),
+        Ok(shape) => Some(print_sound(&SoundBook { bytes: kept, shape }, out)),
+        Err(refusal) => Some(print_refused(refusal, out)),
     }
 }
 
-// The listing of what was read to its end, in a buffer that every listing fits.
+// The listing of what was read, in a buffer that every listing fits.
 pub fn whole_listing(read: Kept, out: &mut [u8; ROOM]) -> usize
     ensures { Listed read.entry.bytes.now read.entry.whole out.old (Some result) out.new }
 {
     listing(read.bytes, read.whole, out).unwrap_or(0)
 }
 
-// The kind of a record that was kept, and none of any other.
-fn kind_of(kept: &[u8], place: usize) -> Option<Kind>
-    ensures { rank result ≡ kind_kept kept.now place }
+// The rank of the kind of a record that was kept, and 0 of any other.
+fn kind_of(kept: &[u8], place: usize) -> u8
+    ensures { result ≡ kind_kept kept.now place }
 {
     if place < kept.len() / 32 {
         let record = Record {
             book: kept,
             number: place,
         };
-        record.kind()
+        record.kind().map_or(0, Kind::rank)
     } else {
-        None
+        0
     }
 }
 
@@ -207,7 +230,7 @@ pub fn reason(kept: &[u8], size: usize) -> Text
     }
 }
 
-// What is said of what was read to its end.
+// What is said of what was read.
 pub fn whole_reason(read: Kept) -> Text
     ensures { Explained read.entry.bytes.now read.entry.whole result }
 {

@@ -1,10 +1,10 @@
 // The vocabulary of the desk: the types that every crate passes by value. specs/ says what they mean.
 #![tactic(auto)]
 
-ghost use Rattle.std.specs.Prelude.{◌≡◌, ℤ, pos, ◌+ℤ◌};
+ghost use Rattle.std.specs.Prelude.{◌≡◌, Some, ℤ, pos, ◌+ℤ◌};
 ghost use Rattle.std.specs.Int.{w64};
 ghost use Rattle.std.proofs.Common.{SFits};
-ghost use Rattle.paper.specs.Records.{above, bought, traded_today};
+ghost use Rattle.paper.specs.Records.{rank, above, bought, traded_today};
 ghost use Rattle.paper.specs.Refusals.{product_of};
 ghost use Rattle.paper.specs.Answers.{code_of, answer_code, answer_place, answer_totals, no_totals, add_mark, add_naked, add_cross};
 
@@ -110,12 +110,20 @@ pub struct Shape {
     pub points: usize,
 }
 
-// What a record is, by its letter, in the order of the book.
+// What a record is, by its letter, in the order of the book, where it has that rank.
 #[derive(Clone, Copy, Debug, PartialEq, Eq, PartialOrd, Ord)]
 pub enum Kind {
-    Class,
-    Instrument,
-    Position,
+    Class = 1,
+    Instrument = 2,
+    Position = 3,
+}
+
+impl Kind {
+    pub fn rank(self) -> u8
+        ensures { result ≡ rank (Some self) }
+    {
+        self as u8
+    }
 }
 
 // The rows of the refusal table, by their numbers there.

@@ -4,11 +4,27 @@ use Rattle.amount.proofs.Outcomes.{OneResult, coincide}
 use Rattle.paper.specs.declared.Kind.{Kind}
 use Rattle.paper.specs.declared.Kind.TheVariants.{Class, Instrument, Position}
 use Rattle.paper.specs.Records.{rank}
+use Rattle.record.proofs.bytes.byte.Reads as byte-Reads
+use Rattle.record.proofs.bytes.le16.Reads as le16-reads
+use Rattle.record.proofs.bytes.le32.Reads as le32-reads
+use Rattle.record.proofs.bytes.signed.Reads as signed-Reads
 use Rattle.record.proofs.Record.kind.Reads as kind-reads
 use Rattle.record.proofs.Record.reserved_zero.Reads as reserved-zero-reads
 use Rattle.record.proofs.Record.class.Reads as class-reads
 use Rattle.record.proofs.Record.instrument.Reads as instrument-reads
 use Rattle.record.proofs.Record.position.Reads as position-reads
+
+byte : OneResult byte-Reads.Post
+byte κs a x y e f = coincide
+
+le16 : OneResult le16-reads.Post
+le16 κs a x y e f = coincide
+
+le32 : OneResult le32-reads.Post
+le32 κs a x y e f = coincide
+
+signed : OneResult signed-Reads.Post
+signed κs a x y e f = coincide
 
 -- no two kinds have one rank
 same_rank : (x y : Option Kind) → rank x ≡ rank y → x ≡ y

@@ -1,12 +1,15 @@
 // One record of a book: its kind, the fields that the kind names, and the bytes that it does not.
 #![tactic(auto)]
 
-ghost use Rattle.std.specs.Prelude.{◌≡◌, ◌+◌, ◌*◌, ◌<◌, ◌≤◌, ◌==◌, pos, length};
+ghost use Rattle.std.specs.Prelude.{◌≡◌, ◌+◌, ◌*◌, ◌≤◌, ◌==◌, length};
 ghost use Rattle.std.specs.List.{list_all};
-ghost use Rattle.paper.specs.Records.{byte as byte_of, le16 as le16_of, le32 as le32_of, rank, kind_of, kind_at, class_at, instrument_at, position_at};
+ghost use Rattle.paper.specs.Records.{rank, kind_of, kind_at, class_at, instrument_at, position_at};
 ghost use Rattle.paper.specs.Refusals.{zeros as zeros_of, reserved_zero};
 
+use crate::bytes::{byte, le16, le32, signed};
 use paper::{Class, Instrument, Kind, Position};
+
+mod bytes; // bytes.rt: little-endian numbers at a byte of a record
 
 // A record by its number, which lies within the book. Not 32 bytes of their own: the definitions speak of record r of a book.
 #[derive(Clone, Copy)]
@@ -36,48 +39,10 @@ fn all_zero(bytes: &[u8]) -> bool
 }
 
 impl Record<'_> {
-    // Byte o.
-    fn byte(&self, o: usize) -> u8
-        requires { o < 32 }
-        ensures { result ≡ byte_of self.now.book.now self.now.number o }
-    {
-        self.book[32 * self.number + o]
-    }
-
-    // The fields of two and four bytes are little endian. Each is one call of its type's own method; one for both would need a trait.
-    #[tactic(auto, unfolding(paper::specs::Records::le16))]
-    fn le16(&self, o: usize) -> u16
-        requires { o + 1 < 32 }
-        ensures { result ≡ le16_of self.now.book.now self.now.number o }
-    {
-        u16::from_le_bytes([self.byte(o), self.byte(o + 1)])
-    }
-
-    #[tactic(auto, unfolding(paper::specs::Records::le32, paper::specs::Records::le16))]
-    fn le32(&self, o: usize) -> u32
-        requires { o + 3 < 32 }
-        ensures { result ≡ le32_of self.now.book.now self.now.number o }
-    {
-        u32::from_le_bytes([
-            self.byte(o),
-            self.byte(o + 1),
-            self.byte(o + 2),
-            self.byte(o + 3),
-        ])
-    }
-
-    // Yields, prices, Par and Adj are signed from here on.
-    fn signed(&self, o: usize) -> i64
-        requires { o + 3 < 32 }
-        ensures { result ≡ pos (le32_of self.now.book.now self.now.number o) }
-    {
-        i64::from(self.le32(o))
-    }
-
     pub fn kind(&self) -> Option<Kind>
         ensures { rank result ≡ kind_at self.now.book.now self.now.number }
     {
-        kind_named(self.byte(0))
+        kind_named(byte(self.book, self.number, 0))
     }
 
     // Whether the n bytes from o on are zero.
@@ -107,9 +72,9 @@ impl Record<'_> {
         ensures { result ≡ class_at self.now.book.now self.now.number }
     {
         Class {
-            parent: self.le16(2),
-            points: self.le16(4),
-            share: self.le16(6),
+            parent: le16(self.book, self.number, 2),
+            points: le16(self.book, self.number, 4),
+            share: le16(self.book, self.number, 6),
         }
     }
 
@@ -118,13 +83,13 @@ impl Record<'_> {
         ensures { result ≡ instrument_at self.now.book.now self.now.number }
     {
         Instrument {
-            product: self.byte(1),
-            class: self.le16(2),
-            days: self.le16(4),
-            today: self.signed(8),
-            before: self.signed(12),
-            par: self.signed(16),
-            adj: self.signed(20),
+            product: byte(self.book, self.number, 1),
+            class: le16(self.book, self.number, 2),
+            days: le16(self.book, self.number, 4),
+            today: signed(self.book, self.number, 8),
+            before: signed(self.book, self.number, 12),
+            par: signed(self.book, self.number, 16),
+            adj: signed(self.book, self.number, 20),
         }
     }
 
@@ -133,11 +98,11 @@ impl Record<'_> {
         ensures { result ≡ position_at self.now.book.now self.now.number }
     {
         Position {
-            side: self.byte(1),
-            instrument: self.le16(2),
-            quantity: self.le32(4),
-            price: self.signed(8),
-            traded: self.byte(12),
+            side: byte(self.book, self.number, 1),
+            instrument: le16(self.book, self.number, 2),
+            quantity: le32(self.book, self.number, 4),
+            price: signed(self.book, self.number, 8),
+            traded: byte(self.book, self.number, 12),
         }
     }
 }

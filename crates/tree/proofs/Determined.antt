@@ -8,6 +8,8 @@ use Rattle.tree.proofs.held.HeldRows.choose.Reads as choose-reads
 use Rattle.tree.proofs.row.clear_row.Reads as clear-row-reads
 use Rattle.tree.proofs.row.slide_row.Reads as slide-row-reads
 use Rattle.tree.proofs.row.add_row.Reads as add-row-reads
+use Rattle.tree.proofs.row.lowest_in.Reads as lowest-in-reads
+use Rattle.tree.proofs.row.chosen_in.Reads as chosen-in-reads
 use Rattle.tree.proofs.held.HeldRows.lowest.Reads as lowest-reads
 use Rattle.tree.proofs.held.HeldRows.chosen.Reads as chosen-reads
 use Rattle.tree.proofs.terms.parent_of.Reads as parent-of-reads
@@ -39,6 +41,12 @@ slide_row κs a x y e f = coincide
 
 add_row : OneOutcome (λ κs x e. e.0.now) add-row-reads.Post
 add_row κs a x y e f = coincide
+
+lowest_in : OneResult lowest-in-reads.Post
+lowest_in κs a x y e f = coincide
+
+chosen_in : OneResult chosen-in-reads.Post
+chosen_in κs a x y e f = coincide
 
 lowest : OneResult lowest-reads.Post
 lowest κs a x y e f = coincide

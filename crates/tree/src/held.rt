@@ -2,13 +2,13 @@
 ghost use Rattle.std.specs.Prelude.{◌≡◌, ◌-◌, ◌<◌, ◌≤◌, nat_abs, ◌+ℤ◌};
 ghost use Rattle.std.specs.Int.{w64};
 ghost use Rattle.std.proofs.Common.{SFits};
-ghost use Rattle.paper.specs.Sums.{listed, lowest};
+ghost use Rattle.paper.specs.Sums.{lowest};
 ghost use Rattle.paper.specs.Windows.{chosen_near};
 ghost use Rattle.paper.specs.Trees.{cross_of};
 ghost use Rattle.paper.specs.Answers.{add_cross};
 ghost use Rattle.tree.specs.Buffers.{walk, rows_in, RoomForRows, HoldsRows, from_root};
 
-use crate::terms;
+use crate::{row, terms};
 use book::SoundBook;
 use paper::Totals;
 
@@ -22,21 +22,12 @@ pub struct HeldRows<'a> {
 }
 
 impl HeldRows<'_> {
-    // Row k.
-    fn row(&self, k: usize) -> &[i64]
-        requires { k < self.now.book.shape.classes }
-        ensures { result.now ≡ listed self.now.book.shape.points (rows_in self.now.book.shape.points self.now.cells.now k) }
-    {
-        let points = self.book.shape.points;
-        &self.cells[k * points..k * points + points]
-    }
-
-    // Its lowest entry.
+    // The lowest entry of row k.
     fn lowest(&self, k: usize) -> i64
         requires { k < self.now.book.shape.classes }
         ensures { result ≡ lowest (rows_in self.now.book.shape.points self.now.cells.now k) 0 (self.now.book.shape.points - 1) }
     {
-        amount::lowest(self.row(k))
+        row::lowest_in(self.cells, self.book.shape.points, k)
     }
 
     // The point chosen of it within reach r of x.
@@ -44,7 +35,7 @@ impl HeldRows<'_> {
         requires { (k < self.now.book.shape.classes) × (x < self.now.book.shape.points) }
         ensures { result ≡ chosen_near self.now.book.shape.points (rows_in self.now.book.shape.points self.now.cells.now k) r x }
     {
-        window::chosen_near(self.row(k), r, x) as u16
+        row::chosen_in(self.cells, self.book.shape.points, k, r, x)
     }
 
     // A root adds its lowest result to the cross margin.

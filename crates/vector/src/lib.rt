@@ -132,8 +132,10 @@ impl Item {
         requires { self.now.points ≤ length work.old }
         ensures { work.new ≡ listed self.now.points (amount_at self.now.instrument self.now.points self.now.held) ++ drop self.now.points work.old }
     {
-        for i in 0..self.points {
-            work[i] = self.amount_at(i);
+        // a value of its own: what is written can't be a part of it, and so it isn't read again at each point
+        let item = *self;
+        for i in 0..item.points {
+            work[i] = item.amount_at(i);
         }
     }
 

@@ -1,23 +1,17 @@
 -- The lowest-numbered point of a range that has the range's lowest entry: what the definition finds, and how a scan
 -- upward keeps it. Assumes nothing.
-use mathlib.Core.Path.{◌≡◌, refl}
+use mathlib.Core.Path.{◌≡◌, refl, sym}
+use mathlib.Core.Logic.{⊎_elim}
 use mathlib.Core.Bool.{Bool, true, false, cond}
-use Prim.Native.Nat.{ℕ, zero, suc, ◌+◌, ◌-◌, ◌≤◌, ◌<◌}
-use mathlib.Core.List.{List}
-use lib.ListN.{length}
-use borrow.Author.Tests.{lt-ltb}
+use Prim.Native.Nat.{ℕ, zero, suc, ◌+◌, ◌≤◌, ◌<◌}
 use native.Mathlib.Omega.{arith}
 use native.Mathlib.Decide.{ℕ_discrete, dec_lt}
-use lib.IntN.{ℤ, pos}
+use lib.IntN.{ℤ}
 use lib.Signed.{◌≤ℤ◌, ◌<ℤ◌, le_z}
-use Rattle.paper.specs.Sums.{lowest}
+use Rattle.paper.specs.Sums.{worse, lowest}
 use Rattle.paper.specs.Windows.{first_at}
-use Rattle.std.proofs.lemmas.List.Sums.{position_or_len_is}
-use Rattle.std.specs.List.{position, position_or_len}
-use Rattle.std.specs.Prelude.{Some}
 use Rattle.amount.proofs.Ints.{ints}
-use Rattle.amount.proofs.Worst.{Lowest, lowest_is}
-use Rattle.window.specs.Slides.{entry_of, first_lowest}
+use Rattle.amount.proofs.Worst.{Lowest, lowest_is, Worse, worse_is}
 
 -- to show P of a test's outcome, show it of both outcomes, each with what the test then says
 le_z_cases : (P : Bool → Type 0) (a b : ℤ) → (a ≤ℤ b → P true) → (b <ℤ a → P false) → P (le_z a b)
@@ -77,14 +71,32 @@ first_lowest_only {v} {a} {n} {b} j =
       ]
     ]
 
--- the first of a list's entries that is not above the lowest
-pub found : (v : List ℤ) (z : ℤ) → 0 < length v → z ≡ lowest (entry_of v) 0 (length v - 1) → position (λ y. le_z y z) v ≡ Some (first_lowest (entry_of v) 0 (length v - 1))
-found v z h e =
-    let b : ℕ = first_lowest (entry_of v) 0 (length v - 1) in
-    let i : FirstLowest (entry_of v) 0 (length v - 1) b = first_lowest_is (entry_of v) 0 (length v - 1) in
-    let on : b < length v = omega (arith, i.to) in
-    let early : (k : ℕ) → k < b → le_z (entry_of v k) z ≡ false =
-    λ k l. let f : lowest (entry_of v) 0 (length v - 1) <ℤ entry_of v k = i.early k (omega arith) l in grind ints in
-    let at : b < length v → le_z (entry_of v b) z ≡ true = λ l. let f : entry_of v b ≡ lowest (entry_of v) 0 (length v - 1) = i.is in grind ints in
-    let first : position_or_len (λ y. le_z y z) v ≡ b = position_or_len_is (λ y. le_z y z) v b (pos 0) (omega arith) early at in
-    rw (first, lt-ltb b (length v) on)
+-- a range of one point; then one point more, which is lower than all before it, or is not
+pub first_one : (v : ℕ → ℤ) (a : ℕ) → FirstLowest v a 0 a
+unfolding lowest
+first_one v a = record { from = omega arith; to = omega arith; is = refl; early = λ y h l. absurd (omega arith) }
+
+module _ (v : ℕ → ℤ) (a n b : ℕ) (i : FirstLowest v a n b) where
+  abbrev next : ℤ
+  next = v (a + suc n)
+
+  either : Worse (lowest v a n) next (worse (lowest v a n) next)
+  either = worse_is (lowest v a n) next
+
+  pub first_next : next <ℤ v b → FirstLowest v a (suc n) (a + suc n)
+  unfolding lowest
+  first_next h = record {
+    from = omega arith;
+    to = omega arith;
+    is = ⊎_elim (λ e. omega (ints, e, either.right, i.is)) sym either.one;
+    early = λ y k l. omega (ints, either.right, i.is, (lowest_is v a n).below y k (omega arith));
+  }
+
+  pub first_kept : v b ≤ℤ next → FirstLowest v a (suc n) b
+  unfolding lowest
+  first_kept h = record {
+    from = i.from;
+    to = omega (arith, i.to);
+    is = ⊎_elim (λ e. omega (ints, e, i.is)) (λ e. omega (ints, e, either.left, i.is)) either.one;
+    early = λ y k l. omega (ints, either.left, i.early y k l);
+  }

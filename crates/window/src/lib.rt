@@ -35,10 +35,10 @@ fn last_within(points: usize, r: usize, x: usize) -> usize
     requires { x < points }
     ensures { result ≡ min (x + r) (points - 1) }
 {
-    x.saturating_add(r).min(points - 1)
+    if points - x <= r { points - 1 } else { x + r }
 }
 
-// The entries of v within reach r of x. The point x comes by itself: `lowest_near` and `chosen_near` promise this of any that lies in v.
+// The entries of v within reach r of x. The point x comes by itself: `chosen_near` promises this of any that lies in v.
 fn within(v: &[i64], r: usize, x: usize) -> &[i64]
     requires { x < length v.now }
     ensures { result.now ≡ within v.now r x }
@@ -51,7 +51,9 @@ pub fn lowest_near(v: &[i64], r: usize, x: usize) -> i64
     requires { x < length v.now }
     ensures { result ≡ lowest_near (length v.now) (entry_of v.now) r x }
 {
-    amount::lowest(within(v, r, x))
+    let from = first_within(r, x);
+    let to = last_within(v.len(), r, x);
+    amount::lowest_from(v, from, to)
 }
 
 // The lowest-numbered point with v's lowest entry.
@@ -59,8 +61,13 @@ fn first_lowest(v: &[i64]) -> usize
     requires { 0 < length v.now }
     ensures { result ≡ first_lowest (entry_of v.now) 0 (length v.now - 1) }
 {
-    let low = amount::lowest(v);
-    v.iter().position(|z| *z <= low).unwrap()
+    let mut first = 0;
+    for y in 1..v.len() {
+        if v[y] < v[first] {
+            first = y;
+        }
+    }
+    first
 }
 
 // The lowest-numbered point within reach r of x with v's lowest entry there.

@@ -52,12 +52,25 @@ fn of_book(place: usize, meaning: &[u8]) -> Text
     lines::remark(b"a book of ", place as u64, b" whole records: ", meaning)
 }
 
-// The line of a refusal, with the kind of the record that it is of.
+// The kind of that rank; of any other number there is none.
+fn ranked(kind: u8) -> Option<Kind>
+    ensures { kind_words_of (rank result) ≡ kind_words_of kind }
+{
+    match kind {
+        1 => Some(Kind::Class),
+        2 => Some(Kind::Instrument),
+        3 => Some(Kind::Position),
+        _ => None,
+    }
+}
+
+// The line of a refusal. The kind is the rank of the record's, and 0 or any other number where it has none: of each there is a line.
 #[tactic(auto, unfolding(crate::specs::Words::bytes))]
-pub fn refusal(refusal: Refusal, kind: Option<Kind>) -> Text
-    ensures { result ≡ refusal_line refusal.fault refusal.place (rank kind) }
+pub fn refusal(refusal: Refusal, kind: u8) -> Text
+    ensures { result ≡ refusal_line refusal.fault refusal.place kind }
 {
     let place = refusal.place;
+    let kind = ranked(kind);
     match refusal.fault {
         Fault::Length => of_book(place, b"the length is not a multiple of 32 bytes"),
         Fault::Letter => of_record(place, kind, b"its letter is not C, I or P"),

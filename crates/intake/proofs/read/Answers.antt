@@ -4,7 +4,7 @@ use Rattle.intake.proofs.read.Goals as goal
 
 pub loop-preserved : goal.loop-preserved
 loop-preserved g c =
-    let n = rw c.in-Some.is at c.in_ok-more.ensures in
+    let n = rw (c.in-Ok-Some.is, c.in-Ok-Some.field-0-is) at c.next.ensures in
     record {
       room = search rules;
       few = omega (arith, n.2.counted, n.2.few);

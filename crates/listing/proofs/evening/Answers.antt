@@ -1,9 +1,5 @@
-use Rattle.std.proofs.Common.{rules}
-use Rattle.listing.proofs.Edge.{was_ok, told_or_not}
+use Rattle.listing.proofs.Edge.{of_published}
 use Rattle.listing.proofs.evening.Goals as goal
 
-pub returns : goal.returns
-returns g c =
-    let is = was_ok _ c.read.result c.map_err.result c.in_ok-read.read c.map_err.ensures.cases c.in_ok-read.was in
-    let wrote = was_ok _ c.list.result c.map_err-2.result c.in_ok-map_err.field-0 c.map_err-2.ensures.cases c.in_ok-map_err.was in
-    told_or_not _ _ _ _ (rw is at c.read.ensures.read) (rw wrote at c.list.ensures) c.explain.result c.explain.ensures (λ e f h. search rules) c.map_err-3.result c.map_err-3.ensures.cases
+pub returns-in-Ok : goal.returns-in-Ok
+returns-in-Ok g c = of_published _ _ _ _ (rw c.in-Ok.is at c.read.ensures.read) c.publish.result c.publish.ensures

@@ -8,8 +8,8 @@ use Rattle.listing.proofs.Edge.{stands}
 use Rattle.listing.proofs.list.Goals as goal
 
 -- what was written lies within the buffer
-pub slice_bounds-write_all-end : goal.slice_bounds-write_all-end
-slice_bounds-write_all-end g c =
+pub slice_bounds-hand-end : goal.slice_bounds-hand-end
+slice_bounds-hand-end g c =
     let w = c.whole_listing-n in
     let fits : w.result ≤ length w.new.out = omega (arith, within _ _ _ _ (search rules) _ w.ensures, as_long _ _ _ _ (search rules) _ w.ensures) in
     sym (length-take-le w.result _ fits)
@@ -17,8 +17,8 @@ slice_bounds-write_all-end g c =
 pub returns : goal.returns
 returns g c =
     let w = c.whole_listing-n in
-    on_ok_weaker c.write_all.result
+    on_ok_weaker c.hand.result
     (λ had b of.
     let is : take w.result w.new.out ≡ listing_of b = stands (listing_of b) _ w.new.out w.result (search rules) (w.ensures.of_book b of) in
     subst (Appends _ _) is had)
-    c.write_all.ensures.bytes
+    c.hand.ensures

@@ -1,7 +1,8 @@
 use Rattle.std.proofs.Common.{◌∙◌}
+use Rattle.paper.specs.Windows.{lowest_near}
 use Rattle.amount.proofs.Ints.{back}
-use Rattle.window.proofs.Part.{lowest_within}
 use Rattle.window.proofs.lowest_near.Goals as goal
 
 pub returns : goal.returns
-returns c = back _ c.lowest.type_inv ∙ c.lowest.ensures ∙ rw c.within.ensures (lowest_within c.args.v.now c.args.r c.args.x c.requires)
+unfolding lowest_near
+returns c = back _ c.lowest_from.type_inv ∙ c.lowest_from.ensures ∙ rw (c.last_within-to.ensures, c.first_within-from.ensures)

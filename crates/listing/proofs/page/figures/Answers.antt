@@ -1,15 +1,13 @@
 use Rattle.std.specs.Prelude.{Ok}
-use Rattle.std.proofs.Common.{◌≡◌, List, ℕ, ℤ, ap, refl, length, arith}
+use Rattle.std.proofs.Common.{◌≡◌, List, ℕ, ℤ, refl, length, arith}
 use Rattle.paper.specs.declared.Shape.{Shape}
 use Rattle.paper.specs.declared.Totals.{Totals}
 use Rattle.paper.specs.Refusals.{verdict_of}
 use Rattle.paper.specs.Listing.{listing_for}
-use Rattle.book.proofs.Sound.{sound_book}
 use Rattle.margin.specs.Run.{Ran}
 use Rattle.listing.specs.Page.{figure_lines}
 use Rattle.listing.proofs.Sounds.{enough, listing_is}
-use Rattle.listing.proofs.Lengths.{sound_short}
-use Rattle.listing.proofs.page.sound_page.Goals as goal
+use Rattle.listing.proofs.page.figures.Goals as goal
 
 -- the lines of what was run in buffers that are long enough are the listing's
 lines_are :
@@ -21,13 +19,7 @@ lines_are b s rows rows' choice choice' code place totals sound r c ran =
     (enough b s (length rows) (length choice) sound (omega arith) (omega arith))
     ran
 
-pub put_figures-requires : goal.put_figures-requires
-put_figures-requires c =
-    let b = c.args.book.now.bytes.now in
-    let s = c.args.book.now.shape in
-    let ok = sound_book b s c.args.book.now.sound in
-    let e = lines_are b s _ _ _ _ _ _ _ c.args.book.now.sound refl refl c.run-answer.ensures in
-    rw c.totals.ensures (omega (arith, sound_short b s c.args.book.now.sound, ap length c.empty-page.ensures, ap length e), omega (arith, ok.classes, ok.instruments))
-
 pub returns : goal.returns
-returns c = rw (c.empty-page.ensures, c.totals.ensures, lines_are c.args.book.now.bytes.now c.args.book.now.shape _ _ _ _ _ _ _ c.args.book.now.sound refl refl c.run-answer.ensures) at c.put_figures.ensures
+returns c =
+    let b = c.args.book.now in
+    rw c.totals.ensures (lines_are b.bytes.now b.shape _ _ _ _ _ _ _ b.sound refl refl c.run-answer.ensures)
